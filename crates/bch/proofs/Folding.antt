@@ -1,0 +1,89 @@
+-- The remainder worked out in pieces: by 32 bits with four look-ups, by two halves, and of the information times x^16.
+-- Assumes nothing.
+use mathlib.Core.Path.{_≡_, sym, ap, ap₂, _∙_, subst}
+use Prim.Native.Nat.{ℕ, zero, suc, _+_, _-_, _*_, _/_, _%_, _^_, _<_, _≤_}
+use native.Mathlib.Nat.{mod-lt, add-zero, div-add-mod', div-div-eq-div-mul, pow-suc, suc-sub-suc, sub-zero}
+use native.Mathlib.Omega.{arith}
+use lib.Dec.{lit<, lit≤}
+use lib.Bits.{bitXor}
+use lib.Pow.{shr-lt}
+use Rattle.bch.specs.Code.{step, feed, remainder, parity}
+use Rattle.bch.specs.Word.{wordOf, informationOf}
+use Rattle.bch.proofs.Remainder.{feed-lt, feed-append, feed-low, remainder-above, remainder-own, remainder-lead}
+
+-- ---- bit by bit
+
+-- a turn of the loop: one more bit of w
+feed-next : (start n k w : ℕ) → 0 < k → k ≤ n
+    → feed start (n - (k - 1)) (w / 2 ^ (k - 1)) ≡ step (feed start (n - k) (w / 2 ^ k)) (w / 2 ^ (k - 1) % 2)
+unfolding feed
+feed-next start n (suc k) w z h =
+    rw (suc-sub-suc, sub-zero)
+    (let e : n - k ≡ suc (n - suc k) = omega arith in
+    let d : w / 2 ^ k / 2 ≡ w / 2 ^ suc k = div-div-eq-div-mul w (2 ^ k) 2 ∙ ap (λ (x : ℕ). w / x) (sym (pow-suc 2 k)) in
+    ap (λ (m : ℕ). feed start m (w / 2 ^ k)) e ∙ ap (λ (x : ℕ). step (feed start (n - suc k) x) (w / 2 ^ k % 2)) d)
+feed-next start n zero w z h = absurd (omega arith)
+
+pub feed-turn : (start n k w r v : ℕ) → start < 65536 → 0 < k → k ≤ n → r ≡ feed start (n - k) (w / 2 ^ k) → v ≡ step r (w / 2 ^ (k - 1) % 2)
+    → (v ≡ feed start (n - (k - 1)) (w / 2 ^ (k - 1))) × (v < 65536)
+feed-turn start n k w r v h z l e f =
+    let g : v ≡ feed start (n - (k - 1)) (w / 2 ^ (k - 1)) =
+    f ∙ ap (λ (x : ℕ). step x (w / 2 ^ (k - 1) % 2)) e ∙ sym (feed-next start n k w z l) in
+    (g, subst (λ (x : ℕ). x < 65536) (sym g) (feed-lt start (n - (k - 1)) (w / 2 ^ (k - 1)) h))
+
+-- the information is the upper 62 bits and 48 of the lower
+information-is : (hi lo : ℕ) → lo < 2 ^ 64 → hi % 2 ^ 62 * 2 ^ 48 + lo / 2 ^ 16 ≡ informationOf (wordOf hi lo)
+unfolding wordOf
+information-is hi lo h = omega arith
+
+pub parity-law : (hi lo u l r : ℕ) → lo < 2 ^ 64 → u ≡ feed 0 62 hi → l ≡ feed u 48 (lo / 2 ^ 16) → r ≡ feed l 16 0
+    → r ≡ parity (informationOf (wordOf hi lo))
+unfolding parity
+parity-law hi lo u l r h eu el er =
+    er
+    ∙ ap (λ (x : ℕ). feed x 16 0)
+    (el ∙ ap (λ (x : ℕ). feed x 48 (lo / 2 ^ 16)) (eu ∙ sym (feed-low 0 62 hi))
+    ∙ feed-append 0 62 48 (hi % 2 ^ 62) (lo / 2 ^ 16) (shr-lt 48 16 h) ∙ ap (feed 0 110) (information-is hi lo h))
+    ∙ feed-append 0 110 16 (informationOf (wordOf hi lo)) 0 (lit< tt)
+    ∙ ap (feed 0 126) (add-zero (informationOf (wordOf hi lo) * 2 ^ 16))
+
+-- ---- by 32 bits
+
+pub fold-law : (r w a b c d : ℕ) → r < 65536 → w < 2 ^ 32
+    → a ≡ feed (w / 65536 % 256) 16 0 → b ≡ feed (w / 16777216) 24 0 → c ≡ feed (r % 256) 32 0 → d ≡ feed (r / 256) 40 0
+    → bitXor (bitXor (bitXor (bitXor (w % 65536) a) b) c) d ≡ feed r 32 w
+fold-law r w a b c d hr hw ea eb ec ed =
+    ap₂ bitXor (ap₂ bitXor (ap₂ bitXor (ap₂ bitXor low (ea ∙ byte 2 16 (omega arith))) (eb ∙ byte 3 24 (omega arith))) (ec ∙ byte 4 32 (omega arith)))
+    (ed ∙ byte 5 40 (omega arith))
+    ∙ sym (remainder-above 8 40 n (lit≤ tt)
+    ∙ ap (λ (x : ℕ). bitXor x (feed (n / 2 ^ 40 % 2 ^ 8) 40 0))
+    (remainder-above 8 32 n (lit≤ tt)
+    ∙ ap (λ (x : ℕ). bitXor x (feed (n / 2 ^ 32 % 2 ^ 8) 32 0))
+    (remainder-above 8 24 n (lit≤ tt)
+    ∙ ap (λ (x : ℕ). bitXor x (feed (n / 2 ^ 24 % 2 ^ 8) 24 0)) (remainder-above 8 16 n (lit≤ tt)))))
+    ∙ sym (ap (λ (x : ℕ). feed x 32 w) (sym (remainder-own r hr)) ∙ feed-append 0 16 32 r w hw)
+  where
+    -- the remainder and the bits below it, as one number
+    n : ℕ
+    n = r * 2 ^ 32 + w
+
+    byte : (p k : ℕ) {x : ℕ} → x ≡ n / 2 ^ k % 2 ^ 8 → feed x k 0 ≡ feed (n / 2 ^ k % 2 ^ 8) k 0
+    byte p k e = ap (λ (x : ℕ). feed x k 0) e
+
+    low : w % 65536 ≡ remainder 16 n
+    low =
+        let e : w % 65536 ≡ n % 2 ^ 16 = omega arith in
+        e ∙ sym (remainder-own (n % 2 ^ 16) (mod-lt n (lit< tt))) ∙ feed-low 0 16 n
+
+-- 64 bits in two steps
+pub feed-halves : (r w a b : ℕ) → a ≡ feed r 32 (w / 2 ^ 32) → b ≡ feed a 32 (w % 2 ^ 32) → b ≡ feed r 64 w
+feed-halves r w a b ea eb =
+    eb ∙ ap (λ (x : ℕ). feed x 32 (w % 2 ^ 32)) ea ∙ feed-append r 32 32 (w / 2 ^ 32) (w % 2 ^ 32) (mod-lt w (lit< tt))
+    ∙ ap (feed r 64) (div-add-mod' w (2 ^ 32))
+
+pub word-lt : (hi lo : ℕ) → hi < 2 ^ 62 → lo < 2 ^ 64 → hi * 2 ^ 64 + lo < 2 ^ 126
+word-lt hi lo h l = omega arith
+
+pub syndrome-law : (hi lo r v : ℕ) → hi < 2 ^ 62 → lo < 2 ^ 64 → r ≡ feed 0 64 hi → v ≡ feed r 64 lo → v ≡ remainder 126 (hi * 2 ^ 64 + lo)
+syndrome-law hi lo r v h l e f =
+    f ∙ ap (λ (x : ℕ). feed x 64 lo) e ∙ feed-append 0 64 64 hi lo l ∙ remainder-lead 2 126 (hi * 2 ^ 64 + lo) (word-lt hi lo h l)

@@ -1,0 +1,107 @@
+-- A word in two numbers: a bit turned over, what it decodes to, and a frame's words.
+-- Assumes nothing.
+use mathlib.Core.Path.{_≡_, refl, sym, ap, ap₂, _∙_, subst}
+use Prim.Native.Nat.{ℕ, zero, suc, _+_, _-_, _*_, _/_, _%_, _^_, _<_, _≤_}
+use native.Mathlib.Nat.{zero-add, add-zero, one-mul, mod-eq-of-lt}
+use native.Mathlib.Omega.{arith}
+use lib.Arith.{digits-div, digits-mod}
+use mathlib.Core.List.{List}
+use lib.ListN.{getD, set}
+use lib.Dec.{lit<}
+use lib.Pow.{pow-add, pow-lt}
+use lib.Bits.{bitXor, xor-block, xor-lt, xor-zero-r}
+use Rattle.bits.proofs.Filling.{Filling, filling-turn, filling-rest}
+use Rattle.bch.specs.Code.{remainder, parity, coded, flipped}
+use Rattle.bch.specs.Mend.{mend, mended}
+use Rattle.bch.specs.Word.{wordOf, informationOf, decoded, wordAt, halfOf}
+use Rattle.bch.specs.Tables.{Answers, Pattern}
+use Rattle.bch.specs.declared.Decoded.{Decoded}
+use Rattle.bch.specs.declared.Mend.{Mend}
+use Rattle.bch.proofs.Remainder.{remainder-lt}
+use Rattle.bch.proofs.Patterns.{answers-unique, mend-answers}
+
+-- ---- a bit turned over: `hi ^ (1 << (61 - i))`, `lo ^ (1 << (125 - i))`
+
+pub turn-high : (hi lo i : ℕ) → lo < 2 ^ 64 → hi < 2 ^ 62 → i < 62
+    → (bitXor hi (1 * 2 ^ (61 - i) % 2 ^ 64) * 2 ^ 64 + lo ≡ flipped i (hi * 2 ^ 64 + lo)) × (bitXor hi (1 * 2 ^ (61 - i) % 2 ^ 64) < 2 ^ 62)
+unfolding flipped
+turn-high hi lo i l h b =
+    let d : 61 - i < 62 = omega arith in
+    let q : 2 ^ (61 - i) < 2 ^ 62 = pow-lt d in
+    let p : 2 ^ (61 - i) < 2 ^ 64 = omega arith in
+    let s : 125 - i ≡ 61 - i + 64 = omega arith in
+    let e : 2 ^ (125 - i) ≡ 2 ^ (61 - i) * 2 ^ 64 + 0 =
+    ap (λ (x : ℕ). 2 ^ x) s ∙ pow-add 2 (61 - i) 64 ∙ sym (add-zero (2 ^ (61 - i) * 2 ^ 64)) in
+    rw (one-mul, mod-eq-of-lt p) (
+      ap (λ (x : ℕ). bitXor hi (2 ^ (61 - i)) * 2 ^ 64 + x) (sym (xor-zero-r lo))
+          ∙ sym (xor-block 64 hi (2 ^ (61 - i)) lo 0 l (lit< tt)) ∙ ap (bitXor (hi * 2 ^ 64 + lo)) (sym e),
+      xor-lt 62 hi (2 ^ (61 - i)) h q,
+    )
+
+pub turn-low : (hi lo i : ℕ) → lo < 2 ^ 64 → 62 ≤ i → i < 126 → hi * 2 ^ 64 + bitXor lo (1 * 2 ^ (125 - i) % 2 ^ 64) ≡ flipped i (hi * 2 ^ 64 + lo)
+unfolding flipped
+turn-low hi lo i l a b =
+    let d : 125 - i < 64 = omega arith in
+    let p : 2 ^ (125 - i) < 2 ^ 64 = pow-lt d in
+    rw (one-mul, mod-eq-of-lt p)
+    (ap (λ (x : ℕ). x * 2 ^ 64 + bitXor lo (2 ^ (125 - i))) (sym (xor-zero-r hi))
+    ∙ sym (xor-block 64 hi 0 lo (2 ^ (125 - i)) l p) ∙ ap (bitXor (hi * 2 ^ 64 + lo)) (zero-add (2 ^ (125 - i))))
+
+pub parity-lt : {p : ℕ} (m : ℕ) → p ≡ parity m → p < 65536
+unfolding parity
+parity-lt m e = subst (λ (x : ℕ). x < 65536) (sym e) (remainder-lt 126 (m * 2 ^ 16))
+
+-- ---- what a word decodes to
+
+pub decoded-is : (w s hi lo : ℕ) (m n : Mend) → lo < 2 ^ 64 → s ≡ remainder 126 w → Answers s m → m ≡ n → hi * 2 ^ 64 + lo ≡ mended w n
+    → record { hi = hi; lo = lo; mend = n } ≡ decoded w
+unfolding decoded
+decoded-is w s hi lo m n l e a q d =
+    let r : n ≡ mend w = sym q ∙ answers-unique (remainder 126 w) m (mend w) (subst (λ (x : ℕ). Answers x m) e a) (mend-answers w) in
+    let v : hi * 2 ^ 64 + lo ≡ mended w (mend w) = d ∙ ap (mended w) r in
+    λ k. record {
+      hi = (sym (digits-div hi l) ∙ ap (λ (x : ℕ). x / 2 ^ 64) v) k;
+      lo = (sym (digits-mod hi l) ∙ ap (λ (x : ℕ). x % 2 ^ 64) v) k;
+      mend = r k;
+    }
+
+-- ---- a frame's words, two numbers a word
+
+half-upper : (f : ℕ → ℕ) (i : ℕ) → f i / 2 ^ 64 ≡ halfOf f (2 * i)
+unfolding halfOf
+half-upper f i =
+    let e : 2 * i % 2 ≡ 0 = omega arith in
+    let d : 2 * i / 2 ≡ i = omega arith in
+    rw (e, d)
+
+half-lower : (f : ℕ → ℕ) (i : ℕ) → f i % 2 ^ 64 ≡ halfOf f (2 * i + 1)
+unfolding halfOf
+half-lower f i =
+    let e : (2 * i + 1) % 2 ≡ 1 = omega arith in
+    let d : (2 * i + 1) / 2 ≡ i = omega arith in
+    rw (e, d)
+
+module _ (f : ℕ → ℕ) {s₀ s : List ℕ} (i : ℕ) (F : Filling (halfOf f) 768 s₀ s (2 * i)) where
+  -- a word that is not reached yet
+  pub frame-word : wordOf (getD s (2 * i) 0) (getD s (2 * i + 1) 0) ≡ wordAt s₀ i
+  unfolding wordAt
+  frame-word = ap₂ wordOf (filling-rest (halfOf f) (2 * i) 0 F (omega arith)) (filling-rest (halfOf f) (2 * i + 1) 0 F (omega arith))
+
+  -- a turn that stores word i
+  pub frame-turn : (x y : ℕ) → i < 384 → x ≡ f i / 2 ^ 64 → y ≡ f i % 2 ^ 64 → Filling (halfOf f) 768 s₀ (set (set s (2 * i) x) (2 * i + 1) y) (2 * (i + 1))
+  frame-turn x y h ex ey =
+      let next : 2 * i + 1 + 1 ≡ 2 * (i + 1) = omega arith in
+      subst (Filling (halfOf f) 768 s₀ (set (set s (2 * i) x) (2 * i + 1) y)) next
+      (filling-turn (halfOf f) y (filling-turn (halfOf f) x F (omega arith) (ex ∙ half-upper f i)) (omega arith) (ey ∙ half-lower f i))
+
+-- the two numbers of a word with its parity
+pub coded-halves : (hi lo w p : ℕ) → lo < 2 ^ 64 → wordOf hi lo ≡ w → p ≡ parity (informationOf (wordOf hi lo))
+    → (hi % 2 ^ 62 ≡ coded (informationOf w) / 2 ^ 64) × (lo / 65536 * 65536 + p ≡ coded (informationOf w) % 2 ^ 64)
+unfolding wordOf coded
+coded-halves hi lo w p h e q =
+    let small : p < 65536 = parity-lt (informationOf (wordOf hi lo)) q in
+    let v : hi % 2 ^ 62 * 2 ^ 64 + (lo / 65536 * 65536 + p) ≡ coded (informationOf w) =
+    (let s : hi % 2 ^ 62 * 2 ^ 64 + (lo / 65536 * 65536 + p) ≡ informationOf (wordOf hi lo) * 2 ^ 16 + p = omega arith in
+    s ∙ ap (λ (x : ℕ). informationOf (wordOf hi lo) * 2 ^ 16 + x) q ∙ ap (λ (x : ℕ). coded (informationOf x)) e) in
+    let l : lo / 65536 * 65536 + p < 2 ^ 64 = omega arith in
+    (sym (digits-div (hi % 2 ^ 62) l) ∙ ap (λ (x : ℕ). x / 2 ^ 64) v, sym (digits-mod (hi % 2 ^ 62) l) ∙ ap (λ (x : ℕ). x % 2 ^ 64) v)

@@ -1,0 +1,147 @@
+-- The word code keeps what specs/Demands states of it.
+-- Assumes nothing.
+use mathlib.Core.Path.{_≡_, refl, sym, ap, ap₂, _∙_, subst}
+use mathlib.Core.Logic.{_⊎_, inl, inr, _↔_}
+use Prim.Native.Nat.{ℕ, zero, suc, _+_, _*_, _/_, _%_, _^_, _<_, _≤_}
+use native.Mathlib.Nat.{mod-lt, zero-add, zero-mul, div-add-mod'}
+use native.Mathlib.Omega.{arith}
+use native.Mathlib.Decide.{ℕ-discrete, decLt}
+use lib.Arith.{digits-div, digits-lt}
+use lib.Dec.{lit<}
+use lib.Bits.{bitXor, xor-block, xor-comm, xor-lt, xor-self, xor-shifted, xor-zero-r}
+use Rattle.bits.specs.Bits.{bitOf, count}
+use Rattle.bits.proofs.Xor.{xor-assoc, xor-cancel, xor-zero-eq}
+use Rattle.bits.proofs.Weight.{weight}
+use Rattle.bch.specs.Code.{CodeWord, multiple, distance, remainder, parity, coded}
+use Rattle.bch.specs.Mend.{mend, mended, flagOf}
+use Rattle.bch.specs.Tables.{Pattern, columns, Answers}
+use Rattle.bch.specs.Demands.{SentIsCode, MendsTwo, FlaggedExactly, MendedIsCode, FlaggedPasses, SmallestDistance, ThreeFlagged, FlipsAlone}
+use Rattle.bch.specs.declared.Mend.{Mend}
+use Rattle.bch.specs.declared.Mend.the-variants.{Clean, One, Two, Flagged}
+use Rattle.bch.proofs.Remainder.{remainder-lt, remainder-xor, remainder-own, remainder-lead, code-remainder, remainder-code, remainder-code-xor, code-lt}
+use Rattle.bch.proofs.Patterns.{mask, mended-mask, columns-mask, answers-unique, mend-answers, mend-code}
+use Rattle.bch.proofs.Distance.{distance-weight, distance-comm, distance-through, PatternOf, light-pattern, mask-lt, mask-weight, flag-pattern, code-apart}
+
+-- ---- what is sent
+
+-- 16 bits that leave no remainder are 0
+no-parity : (p : ℕ) → p < 65536 → remainder 126 p ≡ p
+no-parity p h = remainder-lead 110 16 p h ∙ remainder-own p h
+
+pub sent-is-code : SentIsCode
+unfolding coded parity
+sent-is-code m h = (
+  remainder-code fits none,
+  fits,
+  digits-div m small,
+  λ c C e.
+      let r : ℕ = bitXor (c % 2 ^ 16) p in
+      let split : c ≡ m * 2 ^ 16 + c % 2 ^ 16 = sym (div-add-mod' c (2 ^ 16)) ∙ ap (λ (x : ℕ). x * 2 ^ 16 + c % 2 ^ 16) e in
+      let low : bitXor c (m * 2 ^ 16 + p) ≡ r =
+      ap (λ (x : ℕ). bitXor x (m * 2 ^ 16 + p)) split ∙ xor-block 16 m m (c % 2 ^ 16) p (mod-lt c (lit< tt)) small
+      ∙ ap (λ (x : ℕ). x * 2 ^ 16 + r) (xor-self m) ∙ zero-add r in
+      let zero : r ≡ 0 =
+      sym (no-parity r (xor-lt 16 (c % 2 ^ 16) p (mod-lt c (lit< tt)) small)) ∙ ap (remainder 126) (sym low)
+      ∙ remainder-code-xor (m * 2 ^ 16 + p) C ∙ none in
+      xor-zero-eq c (m * 2 ^ 16 + p) (low ∙ zero),
+)
+  where
+    p : ℕ
+    p = remainder 126 (m * 2 ^ 16)
+
+    small : p < 65536
+    small = remainder-lt 126 (m * 2 ^ 16)
+
+    fits : m * 2 ^ 16 + p < 2 ^ 126
+    fits = digits-lt h small
+
+    none : remainder 126 (m * 2 ^ 16 + p) ≡ 0
+    none = ap (remainder 126) (sym (xor-shifted m 16 p small)) ∙ remainder-xor 126 (m * 2 ^ 16) p ∙ ap (bitXor p) (no-parity p small) ∙ xor-self p
+
+-- ---- what a word becomes
+
+pub mends-two : MendsTwo
+mends-two c w C h d =
+    let p = light-pattern (bitXor w c) (xor-lt 126 w c h (code-lt C)) (omega (arith, distance-weight w c)) in
+    let r : columns (p .pattern) ≡ remainder 126 w =
+    columns-mask (p .pattern) ∙ ap (remainder 126) (p .bits ∙ xor-comm w c) ∙ remainder-code-xor w C in
+    let m : mend w ≡ p .pattern = answers-unique (remainder 126 w) (mend w) (p .pattern) (mend-answers w) (inl (p .is, r)) in (
+      ap (mended w) m ∙ mended-mask w (p .pattern) ∙ ap (bitXor w) (p .bits) ∙ xor-cancel w c,
+      ap flagOf m ∙ sym (mask-weight (p .pattern) (p .is)) ∙ ap (weight 126) (p .bits) ∙ sym (distance-weight w c),
+    )
+
+-- a pattern that has the remainder of w makes it a code word, as far away as the pattern has bits
+mended-code : (w : ℕ) (m : Mend) → w < 2 ^ 126 → Pattern m → columns m ≡ remainder 126 w → CodeWord (mended w m) × (distance w (mended w m) ≡ flagOf m)
+mended-code w m h P e = (
+  remainder-code (subst (λ (x : ℕ). x < 2 ^ 126) (sym (mended-mask w m)) (xor-lt 126 w (mask m) h (mask-lt m P)))
+      (ap (remainder 126) (mended-mask w m) ∙ remainder-xor 126 w (mask m) ∙ ap (bitXor (remainder 126 w)) (sym (columns-mask m) ∙ e)
+      ∙ xor-self (remainder 126 w)),
+  distance-weight w (mended w m) ∙ ap (weight 126) (ap (bitXor w) (mended-mask w m) ∙ xor-cancel w (mask m)) ∙ mask-weight m P,
+)
+
+pub mended-is-code : MendedIsCode
+unfolding flagOf
+mended-is-code w h f = go (mend-answers w)
+  where
+    go : Answers (remainder 126 w) (mend w) → CodeWord (mended w (mend w)) × (distance w (mended w (mend w)) ≡ flagOf (mend w))
+    go (inl (P, e)) = mended-code w (mend w) h P e
+    go (inr (e, n)) = absurd (f (ap flagOf e))
+
+pub flagged-exactly : FlaggedExactly
+unfolding flagOf
+flagged-exactly w h = (far, near (mend-answers w))
+  where
+    far : flagOf (mend w) ≡ 3 → (c : ℕ) → CodeWord c → 2 < distance w c
+    far f c C = go (decLt 2 (distance w c))
+      where
+        go : Dec (2 < distance w c) → 2 < distance w c
+        go (yes l) = l
+        go (no l) = absurd (let e = mends-two c w C h (omega arith) .1 in omega arith)
+
+    near : Answers (remainder 126 w) (mend w) → ((c : ℕ) → CodeWord c → 2 < distance w c) → flagOf (mend w) ≡ 3
+    near (inl (P, e)) all =
+        let r = mended-code w (mend w) h P e in
+        let l = all (mended w (mend w)) (r .0) in
+        absurd (omega (arith, r .1, flag-pattern (mend w) P))
+    near (inr (e, n)) all = ap flagOf e
+
+pub flagged-passes : FlaggedPasses
+unfolding flagOf mended
+flagged-passes w f = go (mend w) f
+  where
+    go : (m : Mend) → flagOf m ≡ 3 → mended w m ≡ w
+    go Clean e = absurd (omega arith)
+    go (One i) e = absurd (omega arith)
+    go (Two i j) e = absurd (omega arith)
+    go Flagged e = refl
+
+-- ---- distances
+
+-- the multiple of the generator by x^19 + x^17 + x^15 + x^11 + x^10 + x^2 + 1 has six terms
+six : CodeWord 0x840100007
+unfolding multiple
+six = record { quotient = 0xA8C05; product = refl }
+
+nothing : CodeWord 0
+unfolding multiple
+nothing = record { quotient = 0; product = refl }
+
+pub smallest-distance : SmallestDistance
+unfolding distance count bitOf
+smallest-distance = (code-apart, (0x840100007, 0, six, nothing, refl))
+
+pub three-flagged : ThreeFlagged
+three-flagged c w C h d = flagged-exactly w h .1 (λ b B. go b B (ℕ-discrete c b))
+  where
+    go : (b : ℕ) → CodeWord b → Dec (c ≡ b) → 2 < distance w b
+    go b B (yes e) = subst (λ (x : ℕ). 2 < distance w x) e (omega arith)
+    go b B (no n) = omega (arith, code-apart c b C B n, distance-through c w b, distance-comm c w)
+
+-- ---- one pattern speaks for all
+
+pub flips-alone : FlipsAlone
+flips-alone c e C =
+    let m = mend-code e C in (
+      m,
+      ap (mended (bitXor c e)) m ∙ mended-mask (bitXor c e) (mend e) ∙ xor-assoc c e (mask (mend e)) ∙ ap (bitXor c) (sym (mended-mask e (mend e))),
+    )

@@ -1,0 +1,46 @@
+-- What is proved of the word code (01, BCH; demands 2 and 3), as statements; `proofs/Theorems` proves each.
+-- Assumes nothing.
+use mathlib.Core.Path.{_≡_}
+use mathlib.Core.Logic.{_≢_, _↔_}
+use Prim.Native.Nat.{ℕ, _+_, _*_, _/_, _^_, _<_, _≤_}
+use lib.Bits.{bitXor}
+use Rattle.bch.specs.Code.{CodeWord, distance, coded}
+use Rattle.bch.specs.Mend.{mend, mended, flagOf}
+
+-- what is sent is a code word of 126 bits that begins with the information bits, and no other code word does
+abbrev pub SentIsCode : Type 0
+SentIsCode =
+    (m : ℕ) → m < 2 ^ 110
+    → CodeWord (coded m) × (coded m < 2 ^ 126) × (coded m / 2 ^ 16 ≡ m) × ((c : ℕ) → CodeWord c → c / 2 ^ 16 ≡ m → c ≡ coded m)
+
+-- demand 2: a code word with at most two flipped bits becomes the word sent, and the flag counts the bits
+abbrev pub MendsTwo : Type 0
+MendsTwo = (c w : ℕ) → CodeWord c → w < 2 ^ 126 → distance w c ≤ 2 → (mended w (mend w) ≡ c) × (flagOf (mend w) ≡ distance w c)
+
+-- demand 2: a word is flagged exactly when no code word lies within two bits of it
+abbrev pub FlaggedExactly : Type 0
+FlaggedExactly = (w : ℕ) → w < 2 ^ 126 → (flagOf (mend w) ≡ 3) ↔ ((c : ℕ) → CodeWord c → 2 < distance w c)
+
+-- a word that is not flagged becomes a code word, as many bits away as its flag says
+abbrev pub MendedIsCode : Type 0
+MendedIsCode = (w : ℕ) → w < 2 ^ 126 → flagOf (mend w) ≢ 3 → CodeWord (mended w (mend w)) × (distance w (mended w (mend w)) ≡ flagOf (mend w))
+
+-- a flagged word passes on as received
+abbrev pub FlaggedPasses : Type 0
+FlaggedPasses = (w : ℕ) → flagOf (mend w) ≡ 3 → mended w (mend w) ≡ w
+
+-- the smallest distance is 6: two code words differ in six places or more, and two in six
+abbrev pub SmallestDistance : Type 0
+SmallestDistance =
+    ((c d : ℕ) → CodeWord c → CodeWord d → c ≢ d → 6 ≤ distance c d)
+    × ((c : ℕ) × (d : ℕ) × CodeWord c × CodeWord d × (distance c d ≡ 6))
+
+-- any three flips of a code word are flagged
+abbrev pub ThreeFlagged : Type 0
+ThreeFlagged = (c w : ℕ) → CodeWord c → w < 2 ^ 126 → distance w c ≡ 3 → flagOf (mend w) ≡ 3
+
+-- demand 3: which bits are mended, and so the flag and every change, hang on the flips alone and not on the code word
+abbrev pub FlipsAlone : Type 0
+FlipsAlone =
+    (c e : ℕ) → CodeWord c
+    → (mend (bitXor c e) ≡ mend e) × (mended (bitXor c e) (mend (bitXor c e)) ≡ bitXor c (mended e (mend e)))

@@ -1,0 +1,382 @@
+// The word code BCH(126,110): parity and decoding of one word, and of the 384 words of a frame in one call.
+// A word is two numbers: hi has bits 0 to 61 in its 62 low bits, lo has bits 62 to 125. Bits 0 to 109 are the information, the rest is parity.
+ghost use mathlib.Core.Path.{_≡_};
+ghost use Prim.Native.Nat.{ℕ, _<_, _≤_, _+_, _*_, _^_};
+ghost use lib.ListN.{getD, length};
+ghost use Rattle.bch.specs.Code.{step, feed, remainder, parity, flipped};
+ghost use Rattle.bch.specs.Mend.{mended, flagOf};
+ghost use Rattle.bch.specs.Word.{wordOf, informationOf, decoded, codedFrame, mendedFrame, flagsOf};
+ghost use Rattle.bch.specs.Tables.{Answers, IsFold, IsColumns, Finds, rising, valuesOf, pairOf, confirmed, column};
+
+mod tables;
+
+// What decoding turned over: no bit, one, two in rising order; or no code word lies within two bits.
+pub enum Mend {
+    Clean,
+    One(u64),
+    Two(u64, u64),
+    Flagged,
+}
+
+// The word that is passed on, and what was turned over to get it.
+pub struct Decoded {
+    pub hi: u64,
+    pub lo: u64,
+    pub mend: Mend,
+}
+
+// Two places, the lower first.
+struct Pair {
+    pub low: u64,
+    pub high: u64,
+}
+
+// A word in two numbers.
+struct Word {
+    pub hi: u64,
+    pub lo: u64,
+}
+
+// One more coefficient below a remainder.
+fn step(r: u64, b: u64) -> u64
+    requires { ⌜ (r < 65536) × (b < 2) ⌝ }
+    ensures { λ v. ⌜ v ≡ step r b ⌝ }
+{
+    (r * 2 + b) ^ (r / 32768 * 0x14EAB)
+}
+
+// The n low bits of w below a remainder, bit by bit.
+fn feed(start: u64, n: u64, w: u64) -> u64
+    requires { ⌜ (start < 65536) × (n ≤ 64) ⌝ }
+    ensures { λ v. ⌜ (v ≡ feed start n w) × (v < 65536) ⌝ }
+{
+    let mut r = start;
+    let mut k = n;
+    while 0 < k {
+        k -= 1;
+        r = step(r, (w >> k) % 2);
+    }
+    r
+}
+
+// The parity of a word's information; the word's own parity bits are not looked at.
+pub fn parity(hi: u64, lo: u64) -> u64
+    ensures { λ r. ⌜ r ≡ parity (informationOf (wordOf hi lo)) ⌝ }
+{
+    let upper = feed(0, 62, hi);
+    let lower = feed(upper, 48, lo >> 16);
+    feed(lower, 16, 0)
+}
+
+// Byte b of place p of what is folded.
+fn look(t: &[u16; 1024], p: usize, b: u64) -> u64
+    requires { ⌜ IsFold (now t) ⌝ }
+    requires { ⌜ (p < 4) × (b < 256) ⌝ }
+    ensures { λ v. ⌜ (v ≡ feed b (8 * p + 16) 0) × (v < 65536) ⌝ }
+{
+    let k = 256 * p + (b as usize);
+    bits::wide16(t[k])
+}
+
+// 32 more coefficients below a remainder at once: the four upper bytes are looked up, the two lower ones stand as they are.
+fn fold(t: &[u16; 1024], r: u64, w: u64) -> u64
+    requires { ⌜ IsFold (now t) ⌝ }
+    requires { ⌜ (r < 65536) × (w < 2 ^ 32) ⌝ }
+    ensures { λ v. ⌜ (v ≡ feed r 32 w) × (v < 65536) ⌝ }
+{
+    let a = look(t, 0, w / 65536 % 256);
+    let b = look(t, 1, w / 16777216);
+    let c = look(t, 2, r % 256);
+    let d = look(t, 3, r / 256);
+    w % 65536 ^ a ^ b ^ c ^ d
+}
+
+// The remainder of a word: 0 exactly at the code words.
+fn syndrome(t: &[u16; 1024], hi: u64, lo: u64) -> u64
+    requires { ⌜ IsFold (now t) ⌝ }
+    requires { ⌜ hi < 2 ^ 62 ⌝ }
+    ensures { λ v. ⌜ (v ≡ remainder 126 (hi * 2 ^ 64 + lo)) × (v < 65536) ⌝ }
+{
+    let a = fold(t, 0, hi / 4294967296);
+    let b = fold(t, a, hi % 4294967296);
+    let c = fold(t, b, lo / 4294967296);
+    fold(t, c, lo % 4294967296)
+}
+
+// A value of the field for one hex digit of a remainder.
+fn digit(field: &[u16; 64], k: u64) -> u64
+    requires { ⌜ k < 64 ⌝ }
+    ensures { λ v. ⌜ v ≡ getD (now (field .entry)) k 0 ⌝ }
+{
+    let i = k as usize;
+    bits::wide16(field[i])
+}
+
+// The values of a remainder at two elements of the field.
+fn values(field: &[u16; 64], s: u64) -> u64
+    requires { ⌜ s < 65536 ⌝ }
+    ensures { λ v. ⌜ v ≡ valuesOf (now (field .entry)) s ⌝ }
+{
+    let a = digit(field, s % 16);
+    let b = digit(field, 16 + s / 16 % 16);
+    let c = digit(field, 32 + s / 256 % 16);
+    let d = digit(field, 48 + s / 4096 % 16);
+    (a ^ b) ^ (c ^ d)
+}
+
+// The place of a value of the field.
+fn place(log: &[u8; 128], k: u64) -> u64
+    requires { ⌜ k < 128 ⌝ }
+    ensures { λ v. ⌜ (v ≡ getD (now (log .entry)) k 0) × (v < 256) ⌝ }
+{
+    let i = k as usize;
+    bits::wide8(log[i])
+}
+
+// By how much two places lie behind the place of their sum.
+fn behind(ratio: &[u16; 127], k: u64) -> u64
+    requires { ⌜ k < 127 ⌝ }
+    ensures { λ v. ⌜ (v ≡ getD (now (ratio .entry)) k 0) × (v < 65536) ⌝ }
+{
+    let i = k as usize;
+    bits::wide16(ratio[i])
+}
+
+fn rising(x: u64, y: u64) -> Pair
+    ensures { λ r. ⌜ r ≡ rising x y ⌝ }
+{
+    if x <= y {
+        Pair { low: x, high: y }
+    } else {
+        Pair { low: y, high: x }
+    }
+}
+
+// The places of the one or two bits of which s is the remainder; any two numbers where there are none.
+fn candidate(field: &[u16; 64], log: &[u8; 128], ratio: &[u16; 127], s: u64) -> Pair
+    requires { ⌜ s < 65536 ⌝ }
+    ensures { λ r. ⌜ r ≡ pairOf (now (field .entry)) (now (log .entry)) (now (ratio .entry)) s ⌝ }
+{
+    let v = values(field, s);
+    let l = place(log, v % 128);
+    let m = place(log, v / 128 % 128);
+    let q = behind(ratio, (3 * l + 381 - m) % 127);
+    rising((l + q % 128) % 127, (l + q / 128) % 127)
+}
+
+// The remainder of bit i.
+fn of_bit(t: &[u16; 126], i: u64) -> u64
+    requires { ⌜ IsColumns (now t) ⌝ }
+    requires { ⌜ i < 126 ⌝ }
+    ensures { λ v. ⌜ v ≡ column i ⌝ }
+{
+    let k = i as usize;
+    bits::wide16(t[k])
+}
+
+// What was looked up is believed only if its bits have the remainder s.
+fn confirm(t: &[u16; 126], s: u64, p: Pair) -> Mend
+    requires { ⌜ IsColumns (now t) ⌝ }
+    requires { ⌜ p .low ≤ p .high ⌝ }
+    ensures { λ m. ⌜ m ≡ confirmed s p ⌝ }
+{
+    let low = p.low;
+    let high = p.high;
+    if high >= 126 {
+        return Mend::Flagged;
+    }
+    if low == high {
+        if of_bit(t, low) == s {
+            return Mend::One(low);
+        }
+        return Mend::Flagged;
+    }
+    if of_bit(t, low) ^ of_bit(t, high) == s {
+        return Mend::Two(low, high);
+    }
+    Mend::Flagged
+}
+
+// The bits of which s is the remainder.
+fn find(field: &[u16; 64], log: &[u8; 128], ratio: &[u16; 127], t: &[u16; 126], s: u64) -> Mend
+    requires { ⌜ Finds (now field) (now log) (now ratio) ⌝ }
+    requires { ⌜ IsColumns (now t) ⌝ }
+    requires { ⌜ s < 65536 ⌝ }
+    ensures { λ m. ⌜ Answers s m ⌝ }
+{
+    if s == 0 {
+        return Mend::Clean;
+    }
+    let p = candidate(field, log, ratio, s);
+    confirm(t, s, p)
+}
+
+// The word with bit i turned over.
+fn turn(w: Word, i: u64) -> Word
+    requires { ⌜ (w .hi < 2 ^ 62) × (i < 126) ⌝ }
+    ensures { λ v. ⌜ (v .hi * 2 ^ 64 + v .lo ≡ flipped i (w .hi * 2 ^ 64 + w .lo)) × (v .hi < 2 ^ 62) ⌝ }
+{
+    if i < 62 {
+        Word {
+            hi: w.hi ^ (1 << (61 - i)),
+            lo: w.lo,
+        }
+    } else {
+        Word {
+            hi: w.hi,
+            lo: w.lo ^ (1 << (125 - i)),
+        }
+    }
+}
+
+// What a word decodes to, by the tables it is lent.
+fn decode_word(
+    fold: &[u16; 1024],
+    field: &[u16; 64],
+    log: &[u8; 128],
+    ratio: &[u16; 127],
+    column: &[u16; 126],
+    hi: u64,
+    lo: u64,
+) -> Decoded
+    requires { ⌜ IsFold (now fold) ⌝ }
+    requires { ⌜ Finds (now field) (now log) (now ratio) ⌝ }
+    requires { ⌜ IsColumns (now column) ⌝ }
+    requires { ⌜ hi < 2 ^ 62 ⌝ }
+    ensures { λ r. ⌜ r ≡ decoded (hi * 2 ^ 64 + lo) ⌝ }
+{
+    let s = syndrome(fold, hi, lo);
+    let m = find(field, log, ratio, column, s);
+    let w = Word { hi, lo };
+    match m {
+        Mend::Clean => Decoded {
+            hi,
+            lo,
+            mend: Mend::Clean,
+        },
+        Mend::One(i) => {
+            let x = turn(w, i);
+            Decoded {
+                hi: x.hi,
+                lo: x.lo,
+                mend: Mend::One(i),
+            }
+        }
+        Mend::Two(i, j) => {
+            let x = turn(w, i);
+            let y = turn(x, j);
+            Decoded {
+                hi: y.hi,
+                lo: y.lo,
+                mend: Mend::Two(i, j),
+            }
+        }
+        Mend::Flagged => Decoded {
+            hi,
+            lo,
+            mend: Mend::Flagged,
+        },
+    }
+}
+
+// The flag byte: 0, 1 or 2 bits mended, 3 flagged.
+pub fn flag(m: Mend) -> u8
+    ensures { λ r. ⌜ r ≡ flagOf m ⌝ }
+{
+    match m {
+        Mend::Clean => 0,
+        Mend::One(_) => 1,
+        Mend::Two(_, _) => 2,
+        Mend::Flagged => 3,
+    }
+}
+
+// What a word decodes to.
+pub fn decode(hi: u64, lo: u64) -> Decoded
+    ensures { λ r. ⌜ r ≡ decoded (wordOf hi lo) ⌝ }
+{
+    let fold = tables::FOLD;
+    let field = tables::FIELD;
+    let log = tables::LOG;
+    let ratio = tables::RATIO;
+    let column = tables::COLUMN;
+    decode_word(
+        &fold,
+        &field,
+        &log,
+        &ratio,
+        &column,
+        hi % 4611686018427387904,
+        lo,
+    )
+}
+
+// Each word of a frame gets the parity of its information.
+fn encode_words(words: &mut [u64])
+    requires { ⌜ length (now words) ≡ 768 ⌝ }
+    ensures { λ _. ⌜ now (words .exit) ≡ codedFrame (now (words .entry)) ⌝ }
+{
+    let mut i: usize = 0;
+    while i < 384 {
+        let hi = words[2 * i];
+        let lo = words[2 * i + 1];
+        let p = parity(hi, lo);
+        words[2 * i] = hi % 4611686018427387904;
+        words[2 * i + 1] = lo / 65536 * 65536 + p;
+        i += 1;
+    }
+}
+
+pub fn encode_frame(words: &mut [u64; 768])
+    ensures { λ _. ⌜ now (words .exit) ≡ codedFrame (now (words .entry)) ⌝ }
+{
+    encode_words(words);
+}
+
+// Each word of a frame becomes what it decodes to, and gets its flag byte.
+fn decode_words(
+    fold: &[u16; 1024],
+    field: &[u16; 64],
+    log: &[u8; 128],
+    ratio: &[u16; 127],
+    column: &[u16; 126],
+    words: &mut [u64],
+    flags: &mut [u8],
+)
+    requires { ⌜ IsFold (now fold) ⌝ }
+    requires { ⌜ Finds (now field) (now log) (now ratio) ⌝ }
+    requires { ⌜ IsColumns (now column) ⌝ }
+    requires { ⌜ (length (now words) ≡ 768) × (length (now flags) ≡ 384) ⌝ }
+    ensures { λ _. ⌜ (now (words .exit) ≡ mendedFrame (now (words .entry))) × (now (flags .exit) ≡ flagsOf (now (words .entry))) ⌝ }
+{
+    let mut i: usize = 0;
+    while i < 384 {
+        let hi = words[2 * i];
+        let lo = words[2 * i + 1];
+        let d = decode_word(
+            fold,
+            field,
+            log,
+            ratio,
+            column,
+            hi % 4611686018427387904,
+            lo,
+        );
+        words[2 * i] = d.hi;
+        words[2 * i + 1] = d.lo;
+        let m = d.mend;
+        flags[i] = flag(m);
+        i += 1;
+    }
+}
+
+pub fn decode_frame(words: &mut [u64; 768], flags: &mut [u8; 384])
+    ensures { λ _. ⌜ (now (words .exit) ≡ mendedFrame (now (words .entry))) × (now (flags .exit) ≡ flagsOf (now (words .entry))) ⌝ }
+{
+    let fold = tables::FOLD;
+    let field = tables::FIELD;
+    let log = tables::LOG;
+    let ratio = tables::RATIO;
+    let column = tables::COLUMN;
+    decode_words(&fold, &field, &log, &ratio, &column, words, flags);
+}

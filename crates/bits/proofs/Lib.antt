@@ -1,0 +1,12 @@
+pub mod Xor
+pub mod Tabulate
+pub mod Filling
+pub mod Table
+pub mod First
+pub mod Value
+pub mod Fields
+pub mod Joins
+pub mod Count
+pub mod Weight
+pub mod Fixes
+pub mod Determined
