@@ -186,12 +186,14 @@ fn confirm(t: &[u16; 126], s: u64, p: Pair) -> Mend
         return Mend::Flagged;
     }
     if low == high {
-        if of_bit(t, low) == s {
+        let own = of_bit(t, low);
+        if own == s {
             return Mend::One(low);
         }
         return Mend::Flagged;
     }
-    if of_bit(t, low) ^ of_bit(t, high) == s {
+    let sum = of_bit(t, low) ^ of_bit(t, high);
+    if sum == s {
         return Mend::Two(low, high);
     }
     Mend::Flagged
