@@ -1,14 +1,17 @@
 -- The remainder worked out in pieces: by 32 bits with four look-ups, by two halves, and of the information times x^16.
 -- Assumes nothing.
-use mathlib.Core.Path.{_≡_, sym, ap, ap₂, _∙_, subst}
+use mathlib.Core.Path.{_≡_, refl, sym, ap, ap₂, _∙_, subst}
+use mathlib.Core.List.{List}
 use Prim.Native.Nat.{ℕ, zero, suc, _+_, _-_, _*_, _/_, _%_, _^_, _<_, _≤_}
 use native.Mathlib.Nat.{mod-lt, add-zero, div-add-mod', div-div-eq-div-mul, pow-suc, suc-sub-suc, sub-zero}
 use native.Mathlib.Omega.{arith}
 use lib.Dec.{lit<, lit≤}
+use lib.ListN.{getD}
 use lib.Bits.{bitXor}
 use lib.Pow.{shr-lt}
 use Rattle.bch.specs.Code.{step, feed, remainder, parity}
 use Rattle.bch.specs.Word.{wordOf, informationOf}
+use Rattle.bch.specs.Tables.{IsFold}
 use Rattle.bch.proofs.Remainder.{feed-lt, feed-append, feed-low, remainder-above, remainder-own, remainder-lead}
 
 -- ---- bit by bit
@@ -49,26 +52,33 @@ parity-law hi lo u l r h eu el er =
 
 -- ---- by 32 bits
 
-pub fold-law : (r w a b c d : ℕ) → r < 65536 → w < 2 ^ 32
-    → a ≡ feed (w / 65536 % 256) 16 0 → b ≡ feed (w / 16777216) 24 0 → c ≡ feed (r % 256) 32 0 → d ≡ feed (r / 256) 40 0
+pub fold-law : (t : List ℕ) → IsFold t → (r w a b c d : ℕ) → r < 65536 → w < 2 ^ 32
+    → a ≡ getD t (w / 65536 % 256) 0 → b ≡ getD t (256 + w / 16777216) 0 → c ≡ getD t (512 + r % 256) 0 → d ≡ getD t (768 + r / 256) 0
     → bitXor (bitXor (bitXor (bitXor (w % 65536) a) b) c) d ≡ feed r 32 w
-fold-law r w a b c d hr hw ea eb ec ed =
-    ap₂ bitXor (ap₂ bitXor (ap₂ bitXor (ap₂ bitXor low (ea ∙ byte 2 16 (omega arith))) (eb ∙ byte 3 24 (omega arith))) (ec ∙ byte 4 32 (omega arith)))
-    (ed ∙ byte 5 40 (omega arith))
-    ∙ sym (remainder-above 8 40 n (lit≤ tt)
-    ∙ ap (λ (x : ℕ). bitXor x (feed (n / 2 ^ 40 % 2 ^ 8) 40 0))
-    (remainder-above 8 32 n (lit≤ tt)
-    ∙ ap (λ (x : ℕ). bitXor x (feed (n / 2 ^ 32 % 2 ^ 8) 32 0))
-    (remainder-above 8 24 n (lit≤ tt)
-    ∙ ap (λ (x : ℕ). bitXor x (feed (n / 2 ^ 24 % 2 ^ 8) 24 0)) (remainder-above 8 16 n (lit≤ tt)))))
-    ∙ sym (ap (λ (x : ℕ). feed x 32 w) (sym (remainder-own r hr)) ∙ feed-append 0 16 32 r w hw)
+fold-law t T r w a b c d hr hw ea eb ec ed =
+    ap₂ bitXor
+    (ap₂ bitXor
+    (ap₂ bitXor (ap₂ bitXor low (at 0 (w / 65536 % 256) (w / 65536 % 256) (lit< tt) ea (omega arith) (omega arith)))
+    (at 1 (256 + w / 16777216) (w / 16777216) (lit< tt) eb (omega arith) (omega arith)))
+    (at 2 (512 + r % 256) (r % 256) (lit< tt) ec (omega arith) (omega arith)))
+    (at 3 (768 + r / 256) (r / 256) (lit< tt) ed (omega arith) (omega arith))
+    ∙ sym (more 3 (more 2 (more 1 (more 0 refl)))) ∙ sym (ap (λ (x : ℕ). feed x 32 w) (sym (remainder-own r hr)) ∙ feed-append 0 16 32 r w hw)
   where
     -- the remainder and the bits below it, as one number
     n : ℕ
     n = r * 2 ^ 32 + w
 
-    byte : (p k : ℕ) {x : ℕ} → x ≡ n / 2 ^ k % 2 ^ 8 → feed x k 0 ≡ feed (n / 2 ^ k % 2 ^ 8) k 0
-    byte p k e = ap (λ (x : ℕ). feed x k 0) e
+    -- its byte that is 8 p places above the two lowest
+    byte : ℕ → ℕ
+    byte p = n / 2 ^ (8 * p + 16) % 2 ^ 8
+
+    at : (p k b : ℕ) {x : ℕ} → p < 4 → x ≡ getD t k 0 → k ≡ 256 * p + b → b ≡ byte p → x ≡ feed (byte p) (8 * p + 16) 0
+    at p k b h e q f =
+        let l : b < 256 = rw f (mod-lt (n / 2 ^ (8 * p + 16)) (lit< tt)) in
+        e ∙ ap (λ (i : ℕ). getD t i 0) q ∙ T .entry p b h l ∙ ap (λ (i : ℕ). feed i (8 * p + 16) 0) f
+
+    more : (p : ℕ) {x : ℕ} → remainder (8 * p + 16) n ≡ x → remainder (8 + (8 * p + 16)) n ≡ bitXor x (feed (byte p) (8 * p + 16) 0)
+    more p e = remainder-above 8 (8 * p + 16) n (lit≤ tt) ∙ ap (λ (x : ℕ). bitXor x (feed (byte p) (8 * p + 16) 0)) e
 
     low : w % 65536 ≡ remainder 16 n
     low =

@@ -53,11 +53,11 @@ parity-lt m e = subst (λ (x : ℕ). x < 65536) (sym e) (remainder-lt 126 (m * 2
 
 -- ---- what a word decodes to
 
-pub decoded-is : (w s hi lo : ℕ) (m n : Mend) → lo < 2 ^ 64 → s ≡ remainder 126 w → Answers s m → m ≡ n → hi * 2 ^ 64 + lo ≡ mended w n
-    → record { hi = hi; lo = lo; mend = n } ≡ decoded w
+pub decoded-is : (w s hi lo : ℕ) (m : Mend) → lo < 2 ^ 64 → s ≡ remainder 126 w → Answers s m → hi * 2 ^ 64 + lo ≡ mended w m
+    → record { hi = hi; lo = lo; mend = m } ≡ decoded w
 unfolding decoded
-decoded-is w s hi lo m n l e a q d =
-    let r : n ≡ mend w = sym q ∙ answers-unique (remainder 126 w) m (mend w) (subst (λ (x : ℕ). Answers x m) e a) (mend-answers w) in
+decoded-is w s hi lo m l e a d =
+    let r : m ≡ mend w = answers-unique (remainder 126 w) m (mend w) (subst (λ (x : ℕ). Answers x m) e a) (mend-answers w) in
     let v : hi * 2 ^ 64 + lo ≡ mended w (mend w) = d ∙ ap (mended w) r in
     λ k. record {
       hi = (sym (digits-div hi l) ∙ ap (λ (x : ℕ). x / 2 ^ 64) v) k;

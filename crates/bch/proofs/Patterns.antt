@@ -7,6 +7,7 @@ use mathlib.Core.List.{List, _∷_, _++_, List·Memᴰ, List·Memᴰ.List·Mem�
 use Prim.Native.Nat.{ℕ, zero, suc, _+_, _-_, _*_, _/_, _%_, _^_, _<_, _≤_}
 use native.Mathlib.Omega.{arith}
 use lib.Dec.{eqb, ltb, leb}
+use lib.ListN.{getD}
 use lib.Bits.{bitXor, xor-self, xor-zero-r}
 use borrow.Author.Tests.{ltb-true, ltb-false, lt-ltb, eqb-true, eqb-false, eq-eqb, ne-eqb, leb-true, leb-false}
 use Rattle.bits.specs.Bits.{tabulate, first}
@@ -14,7 +15,7 @@ use Rattle.bits.proofs.Xor.{xor-assoc, xor-zero-eq}
 use Rattle.bits.proofs.First.{Found, None, first-cases, first-cong, in-tabulate, of-tabulate, in-flatten, of-flatten}
 use Rattle.bch.specs.Code.{CodeWord, remainder, flipped}
 use Rattle.bch.specs.Mend.{pairs, patterns, mended, isCode, mend}
-use Rattle.bch.specs.Tables.{column, columns, Pattern, Answers, Finds, pairOf, placesOf, rising, confirmed}
+use Rattle.bch.specs.Tables.{column, columns, Pattern, Answers, Within, IsColumns, Finds, pairOf, placesOf, rising, confirmed}
 use Rattle.bch.specs.declared.Pair.{Pair}
 use Rattle.bch.specs.declared.Mend.{Mend}
 use Rattle.bch.specs.declared.Mend.the-variants.{Clean, One, Two, Flagged}
@@ -73,6 +74,9 @@ answers-unique s m n (inr (e, none)) (inl (Q, f)) = absurd (none n Q f)
 answers-unique s m n (inr (e, a)) (inr (f, b)) = e ∙ sym f
 
 -- ---- what the look-ups lead to, confirmed, is the answer
+
+pub column-is : (t : List ℕ) (i : ℕ) {x : ℕ} → IsColumns t → i < 126 → x ≡ getD t i 0 → column i ≡ x
+column-is t i T h e = sym (e ∙ T .entry i h)
 
 rising-order : (x y : ℕ) → rising x y .low ≤ rising x y .high
 unfolding rising
@@ -133,16 +137,15 @@ module _ (field log ratio : List ℕ) (s : ℕ) (p : Pair) (e : p ≡ pairOf fie
           let at : p ≡ placesOf m = e ∙ ap (pairOf field log ratio) (sym c) ∙ F .places m P in
           subst Pattern (sym (ap (confirmed s) at ∙ confirmed-right m s P z c) ∙ f) P
 
--- the places of an answer
-pub answers-one : (s : ℕ) (m : Mend) (i : ℕ) → Answers s m → m ≡ One i → i < 126
-unfolding Pattern
-answers-one s m i (inl (P, c)) e = subst Pattern e P
-answers-one s m i (inr (f, n)) e = let z : _≡_ {A = ℕ} 0 1 = cc in omega arith
-
-pub answers-two : (s : ℕ) (m : Mend) (i j : ℕ) → Answers s m → m ≡ Two i j → (i < j) × (j < 126)
-unfolding Pattern
-answers-two s m i j (inl (P, c)) e = subst Pattern e P
-answers-two s m i j (inr (f, n)) e = absurd (let z : _≡_ {A = ℕ} 0 1 = cc in omega arith)
+-- the places of an answer are places of a word
+pub answers-within : (s : ℕ) (m : Mend) → Answers s m → Within m
+unfolding Pattern Within
+answers-within s Clean a = tt
+answers-within s (One i) (inl (h, c)) = h
+answers-within s (One i) (inr (e, n)) = absurd (let z : _≡_ {A = ℕ} 0 1 = cc in omega arith)
+answers-within s (Two i j) (inl ((l, h), c)) = (omega arith, h)
+answers-within s (Two i j) (inr (e, n)) = absurd (let z : _≡_ {A = ℕ} 0 1 = cc in omega arith)
+answers-within s Flagged a = tt
 
 -- ---- what `mend` finds first is the answer
 

@@ -35,6 +35,13 @@ columns Flagged = 0
 abbrev pub Answers : ℕ → Mend → Type 0
 Answers s m = (Pattern m × (columns m ≡ s)) ⊎ ((m ≡ Flagged) × ((p : Mend) → Pattern p → columns p ≡ s → ⊥))
 
+-- the places of m, if it has any, are places of a word
+unfoldable pub Within : Mend → Type 0
+Within Clean = Unit
+Within (One i) = i < 126
+Within (Two i j) = (i < 126) × (j < 126)
+Within Flagged = Unit
+
 -- the table of `fold`: entry 256 p + b is the remainder of b times x^(8 p + 16)
 pub record IsFold (t : List ℕ) : Type 0 where
   pub entry : (p b : ℕ) → p < 4 → b < 256 → getD t (256 * p + b) 0 ≡ feed b (8 * p + 16) 0
@@ -64,7 +71,7 @@ pairOf field log ratio s = rising ((l + q % 128) % 127) ((l + q / 128) % 127)
     m = getD log (valuesOf field s / 128 % 128) 0
 
     q : ℕ
-    q = getD ratio ((3 * l + 381 - m) % 127) 0
+    q = getD ratio ((3 * l + 126 * m) % 127) 0
 
 -- the places of a pattern's bits, the one bit's twice; beyond the word where there is no bit
 unfoldable pub placesOf : Mend → Pair

@@ -6,7 +6,7 @@ ghost use lib.ListN.{getD, length};
 ghost use Rattle.bch.specs.Code.{step, feed, remainder, parity, flipped};
 ghost use Rattle.bch.specs.Mend.{mended, flagOf};
 ghost use Rattle.bch.specs.Word.{wordOf, informationOf, decoded, codedFrame, mendedFrame, flagsOf};
-ghost use Rattle.bch.specs.Tables.{Answers, IsFold, IsColumns, Finds, rising, valuesOf, pairOf, confirmed, column};
+ghost use Rattle.bch.specs.Tables.{Answers, Within, IsFold, IsColumns, Finds, rising, valuesOf, pairOf, confirmed};
 
 mod tables;
 
@@ -27,14 +27,14 @@ pub struct Decoded {
 
 // Two places, the lower first.
 struct Pair {
-    pub low: u64,
-    pub high: u64,
+    low: u64,
+    high: u64,
 }
 
 // A word in two numbers.
 struct Word {
-    pub hi: u64,
-    pub lo: u64,
+    hi: u64,
+    lo: u64,
 }
 
 // One more coefficient below a remainder.
@@ -68,14 +68,13 @@ pub fn parity(hi: u64, lo: u64) -> u64
     feed(lower, 16, 0)
 }
 
-// Byte b of place p of what is folded.
-fn look(t: &[u16; 1024], p: usize, b: u64) -> u64
-    requires { ⌜ IsFold (now t) ⌝ }
-    requires { ⌜ (p < 4) × (b < 256) ⌝ }
-    ensures { λ v. ⌜ (v ≡ feed b (8 * p + 16) 0) × (v < 65536) ⌝ }
+// Entry k of a table.
+fn entry(t: &[u16], k: u64) -> u64
+    requires { ⌜ k < length (now t) ⌝ }
+    ensures { λ v. ⌜ (v ≡ getD (now (t .entry)) k 0) × (v < 65536) ⌝ }
 {
-    let k = 256 * p + (b as usize);
-    bits::wide16(t[k])
+    let i = k as usize;
+    bits::wide16(t[i])
 }
 
 // 32 more coefficients below a remainder at once: the four upper bytes are looked up, the two lower ones stand as they are.
@@ -84,10 +83,10 @@ fn fold(t: &[u16; 1024], r: u64, w: u64) -> u64
     requires { ⌜ (r < 65536) × (w < 2 ^ 32) ⌝ }
     ensures { λ v. ⌜ (v ≡ feed r 32 w) × (v < 65536) ⌝ }
 {
-    let a = look(t, 0, w / 65536 % 256);
-    let b = look(t, 1, w / 16777216);
-    let c = look(t, 2, r % 256);
-    let d = look(t, 3, r / 256);
+    let a = entry(t, w / 65536 % 256);
+    let b = entry(t, 256 + w / 16777216);
+    let c = entry(t, 512 + r % 256);
+    let d = entry(t, 768 + r / 256);
     w % 65536 ^ a ^ b ^ c ^ d
 }
 
@@ -103,45 +102,19 @@ fn syndrome(t: &[u16; 1024], hi: u64, lo: u64) -> u64
     fold(t, c, lo % 4294967296)
 }
 
-// A value of the field for one hex digit of a remainder.
-fn digit(field: &[u16; 64], k: u64) -> u64
-    requires { ⌜ k < 64 ⌝ }
-    ensures { λ v. ⌜ v ≡ getD (now (field .entry)) k 0 ⌝ }
-{
-    let i = k as usize;
-    bits::wide16(field[i])
-}
-
 // The values of a remainder at two elements of the field.
 fn values(field: &[u16; 64], s: u64) -> u64
     requires { ⌜ s < 65536 ⌝ }
     ensures { λ v. ⌜ v ≡ valuesOf (now (field .entry)) s ⌝ }
 {
-    let a = digit(field, s % 16);
-    let b = digit(field, 16 + s / 16 % 16);
-    let c = digit(field, 32 + s / 256 % 16);
-    let d = digit(field, 48 + s / 4096 % 16);
+    let a = entry(field, s % 16);
+    let b = entry(field, 16 + s / 16 % 16);
+    let c = entry(field, 32 + s / 256 % 16);
+    let d = entry(field, 48 + s / 4096 % 16);
     (a ^ b) ^ (c ^ d)
 }
 
-// The place of a value of the field.
-fn place(log: &[u8; 128], k: u64) -> u64
-    requires { ⌜ k < 128 ⌝ }
-    ensures { λ v. ⌜ (v ≡ getD (now (log .entry)) k 0) × (v < 256) ⌝ }
-{
-    let i = k as usize;
-    bits::wide8(log[i])
-}
-
-// By how much two places lie behind the place of their sum.
-fn behind(ratio: &[u16; 127], k: u64) -> u64
-    requires { ⌜ k < 127 ⌝ }
-    ensures { λ v. ⌜ (v ≡ getD (now (ratio .entry)) k 0) × (v < 65536) ⌝ }
-{
-    let i = k as usize;
-    bits::wide16(ratio[i])
-}
-
+// Two places in rising order.
 fn rising(x: u64, y: u64) -> Pair
     ensures { λ r. ⌜ r ≡ rising x y ⌝ }
 {
@@ -153,25 +126,15 @@ fn rising(x: u64, y: u64) -> Pair
 }
 
 // The places of the one or two bits of which s is the remainder; any two numbers where there are none.
-fn candidate(field: &[u16; 64], log: &[u8; 128], ratio: &[u16; 127], s: u64) -> Pair
+fn candidate(field: &[u16; 64], log: &[u16; 128], ratio: &[u16; 127], s: u64) -> Pair
     requires { ⌜ s < 65536 ⌝ }
     ensures { λ r. ⌜ r ≡ pairOf (now (field .entry)) (now (log .entry)) (now (ratio .entry)) s ⌝ }
 {
     let v = values(field, s);
-    let l = place(log, v % 128);
-    let m = place(log, v / 128 % 128);
-    let q = behind(ratio, (3 * l + 381 - m) % 127);
+    let l = entry(log, v % 128);
+    let m = entry(log, v / 128 % 128);
+    let q = entry(ratio, (3 * l + 126 * m) % 127);
     rising((l + q % 128) % 127, (l + q / 128) % 127)
-}
-
-// The remainder of bit i.
-fn of_bit(t: &[u16; 126], i: u64) -> u64
-    requires { ⌜ IsColumns (now t) ⌝ }
-    requires { ⌜ i < 126 ⌝ }
-    ensures { λ v. ⌜ v ≡ column i ⌝ }
-{
-    let k = i as usize;
-    bits::wide16(t[k])
 }
 
 // What was looked up is believed only if its bits have the remainder s.
@@ -186,13 +149,13 @@ fn confirm(t: &[u16; 126], s: u64, p: Pair) -> Mend
         return Mend::Flagged;
     }
     if low == high {
-        let own = of_bit(t, low);
+        let own = entry(t, low);
         if own == s {
             return Mend::One(low);
         }
         return Mend::Flagged;
     }
-    let sum = of_bit(t, low) ^ of_bit(t, high);
+    let sum = entry(t, low) ^ entry(t, high);
     if sum == s {
         return Mend::Two(low, high);
     }
@@ -200,7 +163,7 @@ fn confirm(t: &[u16; 126], s: u64, p: Pair) -> Mend
 }
 
 // The bits of which s is the remainder.
-fn find(field: &[u16; 64], log: &[u8; 128], ratio: &[u16; 127], t: &[u16; 126], s: u64) -> Mend
+fn find(field: &[u16; 64], log: &[u16; 128], ratio: &[u16; 127], t: &[u16; 126], s: u64) -> Mend
     requires { ⌜ Finds (now field) (now log) (now ratio) ⌝ }
     requires { ⌜ IsColumns (now t) ⌝ }
     requires { ⌜ s < 65536 ⌝ }
@@ -231,11 +194,28 @@ fn turn(w: Word, i: u64) -> Word
     }
 }
 
+// The word with the bits of a pattern turned over.
+fn turned(w: Word, m: Mend) -> Word
+    requires { ⌜ w .hi < 2 ^ 62 ⌝ }
+    requires { ⌜ Within m ⌝ }
+    ensures { λ v. ⌜ v .hi * 2 ^ 64 + v .lo ≡ mended (w .hi * 2 ^ 64 + w .lo) m ⌝ }
+{
+    match m {
+        Mend::Clean => w,
+        Mend::One(i) => turn(w, i),
+        Mend::Two(i, j) => {
+            let x = turn(w, i);
+            turn(x, j)
+        }
+        Mend::Flagged => w,
+    }
+}
+
 // What a word decodes to, by the tables it is lent.
 fn decode_word(
     fold: &[u16; 1024],
     field: &[u16; 64],
-    log: &[u8; 128],
+    log: &[u16; 128],
     ratio: &[u16; 127],
     column: &[u16; 126],
     hi: u64,
@@ -249,35 +229,11 @@ fn decode_word(
 {
     let s = syndrome(fold, hi, lo);
     let m = find(field, log, ratio, column, s);
-    let w = Word { hi, lo };
-    match m {
-        Mend::Clean => Decoded {
-            hi,
-            lo,
-            mend: Mend::Clean,
-        },
-        Mend::One(i) => {
-            let x = turn(w, i);
-            Decoded {
-                hi: x.hi,
-                lo: x.lo,
-                mend: Mend::One(i),
-            }
-        }
-        Mend::Two(i, j) => {
-            let x = turn(w, i);
-            let y = turn(x, j);
-            Decoded {
-                hi: y.hi,
-                lo: y.lo,
-                mend: Mend::Two(i, j),
-            }
-        }
-        Mend::Flagged => Decoded {
-            hi,
-            lo,
-            mend: Mend::Flagged,
-        },
+    let w = turned(Word { hi, lo }, m);
+    Decoded {
+        hi: w.hi,
+        lo: w.lo,
+        mend: m,
     }
 }
 
@@ -329,6 +285,7 @@ fn encode_words(words: &mut [u64])
     }
 }
 
+// The same over the frame's array, which asks no length.
 pub fn encode_frame(words: &mut [u64; 768])
     ensures { λ _. ⌜ now (words .exit) ≡ codedFrame (now (words .entry)) ⌝ }
 {
@@ -339,7 +296,7 @@ pub fn encode_frame(words: &mut [u64; 768])
 fn decode_words(
     fold: &[u16; 1024],
     field: &[u16; 64],
-    log: &[u8; 128],
+    log: &[u16; 128],
     ratio: &[u16; 127],
     column: &[u16; 126],
     words: &mut [u64],
@@ -372,6 +329,7 @@ fn decode_words(
     }
 }
 
+// The same over the frame's arrays, with the tables copied once and lent.
 pub fn decode_frame(words: &mut [u64; 768], flags: &mut [u8; 384])
     ensures { λ _. ⌜ (now (words .exit) ≡ mendedFrame (now (words .entry))) × (now (flags .exit) ≡ flagsOf (now (words .entry))) ⌝ }
 {

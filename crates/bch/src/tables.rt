@@ -1097,7 +1097,7 @@ pub const FIELD: [u16; 64] = [
 ];
 
 // For a^e of the field, 125 - e round 127: the place of the bit whose value at a it is. No bit has the value 0: 126.
-pub const LOG: [u8; 128] = [
+pub const LOG: [u16; 128] = [
     126,
     125,
     124,

@@ -7,23 +7,23 @@ use Rattle.bch.proofs.candidate.Tie as tie
 values-requires : tie.Need-values-requires
 values-requires c κs = search needs
 
-place-requires : tie.Need-place-requires
-place-requires c κs = search needs
+entry-requires : tie.Need-entry-requires
+entry-requires c κs = search needs
 
-place-requires-2 : tie.Need-place-requires-2
-place-requires-2 c κs = search needs
+entry-requires-2 : tie.Need-entry-requires-2
+entry-requires-2 c κs = search needs
 
-mul-behind : tie.Need-mul-behind
-mul-behind c = search needs
+mul-entry : tie.Need-mul-entry
+mul-entry c = search needs
 
-add-behind : tie.Need-add-behind
-add-behind c = search needs
+mul-entry-2 : tie.Need-mul-entry-2
+mul-entry-2 c = search needs
 
-sub-behind : tie.Need-sub-behind
-sub-behind c = search needs
+add-entry : tie.Need-add-entry
+add-entry c = search needs
 
-behind-requires : tie.Need-behind-requires
-behind-requires c κs = search needs
+entry-requires-3 : tie.Need-entry-requires-3
+entry-requires-3 c κs = search needs
 
 add-rising : tie.Need-add-rising
 add-rising c = search needs
@@ -37,19 +37,19 @@ rising-requires c κs = search needs
 returns : tie.Need-returns
 unfolding pairOf
 returns c =
-    rw (c .rising .ensures, c .before .behind .ensures .0, c .before .before .place2 .ensures .0, c .before .before .before .place .ensures .0, c .before .before .before .before .values .ensures)
+    rw (c .rising .ensures, c .before .entry3 .ensures .0, c .before .before .before .entry2 .ensures .0, c .before .before .before .before .before .entry .ensures .0, c .before .before .before .before .before .before .before .values .ensures)
 
 pub candidate-spec : {M : Type 1} → statement M
 candidate-spec =
     tie.close
     (tie.spec
     values-requires
-    place-requires
-    place-requires-2
-    mul-behind
-    add-behind
-    sub-behind
-    behind-requires
+    entry-requires
+    entry-requires-2
+    mul-entry
+    mul-entry-2
+    add-entry
+    entry-requires-3
     add-rising
     add-rising-2
     rising-requires

@@ -6,42 +6,42 @@ use borrow.Author.Needs.{needs}
 use Rattle.bch.proofs.values.Statement.{statement}
 use Rattle.bch.proofs.values.Tie as tie
 
-digit-requires : tie.Need-digit-requires
-digit-requires c κs = search needs
+entry-requires : tie.Need-entry-requires
+entry-requires c κs = search needs
 
-add-digit : tie.Need-add-digit
-add-digit c = search needs
+add-entry : tie.Need-add-entry
+add-entry c = search needs
 
-digit-requires-2 : tie.Need-digit-requires-2
-digit-requires-2 c κs = search needs
+entry-requires-2 : tie.Need-entry-requires-2
+entry-requires-2 c κs = search needs
 
-add-digit-2 : tie.Need-add-digit-2
-add-digit-2 c = search needs
+add-entry-2 : tie.Need-add-entry-2
+add-entry-2 c = search needs
 
-digit-requires-3 : tie.Need-digit-requires-3
-digit-requires-3 c κs = search needs
+entry-requires-3 : tie.Need-entry-requires-3
+entry-requires-3 c κs = search needs
 
-add-digit-3 : tie.Need-add-digit-3
-add-digit-3 c = search needs
+add-entry-3 : tie.Need-add-entry-3
+add-entry-3 c = search needs
 
-digit-requires-4 : tie.Need-digit-requires-4
-digit-requires-4 c κs = search needs
+entry-requires-4 : tie.Need-entry-requires-4
+entry-requires-4 c κs = search needs
 
 returns : tie.Need-returns
 unfolding valuesOf
 returns c =
-    ap₂ bitXor (ap₂ bitXor (c .before .before .before .digit .ensures) (c .before .before .digit2 .ensures))
-    (ap₂ bitXor (c .before .digit3 .ensures) (c .digit4 .ensures))
+    ap₂ bitXor (ap₂ bitXor (c .before .before .before .before .before .before .entry .ensures .0) (c .before .before .before .before .entry2 .ensures .0))
+    (ap₂ bitXor (c .before .before .entry3 .ensures .0) (c .entry4 .ensures .0))
 
 pub values-spec : {M : Type 1} → statement M
 values-spec =
     tie.close
     (tie.spec
-    digit-requires
-    add-digit
-    digit-requires-2
-    add-digit-2
-    digit-requires-3
-    add-digit-3
-    digit-requires-4
+    entry-requires
+    add-entry
+    entry-requires-2
+    add-entry-2
+    entry-requires-3
+    add-entry-3
+    entry-requires-4
     returns)
