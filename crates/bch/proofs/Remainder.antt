@@ -10,15 +10,10 @@ use lib.Arith.{digits-div, digits-mod, lt-one}
 use lib.Dec.{lit<, lit≤}
 use lib.Pow.{field, mod-mod-pow, pow-pos, pow-mono, pow-lt}
 use lib.Bits.{bitXor, xor-self, xor-zero-r, xor-lt, xor-block, xor-shr, xor-mod, block-half, block-odd}
-use Rattle.bits.proofs.Xor.{xor-half, xor-four, xor-double, xor-zero-eq}
+use Rattle.bits.proofs.Xor.{bit-cases, xor-half, xor-four, xor-double}
 use Rattle.bch.specs.Code.{generator, multiple, CodeWord, step, feed, remainder}
 
 -- ---- linear
-
-bit-cases : (x : ℕ) → x < 2 → (x ≡ 0) ⊎ (x ≡ 1)
-bit-cases zero h = inl refl
-bit-cases (suc zero) h = inr refl
-bit-cases (suc (suc x)) h = absurd (omega arith)
 
 generator-xor : (x y : ℕ) → x < 2 → y < 2 → bitXor x y * generator ≡ bitXor (x * generator) (y * generator)
 generator-xor zero y hx hy = ap (λ (z : ℕ). bitXor z (y * generator)) (sym (zero-mul generator))

@@ -12,7 +12,7 @@ use lib.Dec.{eqb, lit<}
 use lib.Pow.{pow-lt, pow-pos}
 use lib.Bits.{bitXor, differ, xor-shifted, xor-comm, xor-lt}
 use Rattle.bits.specs.Bits.{bitOf, count}
-use Rattle.bits.proofs.Xor.{xor-half, xor-odd, xor-double}
+use Rattle.bits.proofs.Xor.{bit-cases, xor-half, xor-odd, xor-double}
 use Rattle.bits.proofs.Count.{count-cong}
 
 unfoldable pub weight : ℕ → ℕ → ℕ
@@ -21,13 +21,8 @@ weight (suc k) n = n % 2 + weight k (n / 2)
 
 -- ---- sums
 
-two-cases : (n : ℕ) → (n % 2 ≡ 0) ⊎ (n % 2 ≡ 1)
-two-cases n = go (n % 2) (mod-lt n (lit< tt))
-  where
-    go : (x : ℕ) → x < 2 → (x ≡ 0) ⊎ (x ≡ 1)
-    go zero h = inl refl
-    go (suc zero) h = inr refl
-    go (suc (suc x)) h = absurd (omega arith)
+last-cases : (n : ℕ) → (n % 2 ≡ 0) ⊎ (n % 2 ≡ 1)
+last-cases n = bit-cases (n % 2) (mod-lt n (lit< tt))
 
 -- a sum's weight is the weights', less twice the bits that both have
 differ-even : (x y : ℕ) → x < 2 → y < 2 → (c : ℕ) × (x + y ≡ differ x y + 2 * c)
@@ -113,7 +108,7 @@ pub record Double (k n : ℕ) : Type 0 where
 weight-1 : (k n : ℕ) → n < 2 ^ k → weight k n ≡ 1 → Single k n
 unfolding weight
 weight-1 zero n h e = absurd (omega arith)
-weight-1 (suc k) n h e = go (weight-1 k (n / 2) (omega arith)) (two-cases n)
+weight-1 (suc k) n h e = go (weight-1 k (n / 2) (omega arith)) (last-cases n)
   where
     go : (weight k (n / 2) ≡ 1 → Single k (n / 2)) → (n % 2 ≡ 0) ⊎ (n % 2 ≡ 1) → Single (suc k) n
     go ih (inl z) = let o : Single k (n / 2) = ih (omega arith) in record { at = suc (o .at); below = omega arith; is = omega (arith, o .is) }
@@ -124,7 +119,7 @@ weight-1 (suc k) n h e = go (weight-1 k (n / 2) (omega arith)) (two-cases n)
 weight-2 : (k n : ℕ) → n < 2 ^ k → weight k n ≡ 2 → Double k n
 unfolding weight
 weight-2 zero n h e = absurd (omega arith)
-weight-2 (suc k) n h e = go (weight-2 k (n / 2) (omega arith)) (two-cases n)
+weight-2 (suc k) n h e = go (weight-2 k (n / 2) (omega arith)) (last-cases n)
   where
     go : (weight k (n / 2) ≡ 2 → Double k (n / 2)) → (n % 2 ≡ 0) ⊎ (n % 2 ≡ 1) → Double (suc k) n
     go ih (inl z) =
@@ -192,7 +187,7 @@ parts zero n a b h w =
       one-light = omega arith;
       other-light = omega arith;
     }
-parts (suc k) n a b h w = go a b w (λ a b. parts k (n / 2) a b (omega arith)) (two-cases n)
+parts (suc k) n a b h w = go a b w (λ a b. parts k (n / 2) a b (omega arith)) (last-cases n)
   where
     go : (a b : ℕ) → n % 2 + weight k (n / 2) ≤ a + b → ((a b : ℕ) → weight k (n / 2) ≤ a + b → Parts k (n / 2) a b)
         → (n % 2 ≡ 0) ⊎ (n % 2 ≡ 1) → Parts (suc k) n a b

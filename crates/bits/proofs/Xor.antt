@@ -1,6 +1,7 @@
--- Exclusive or on numbers is a commutative group, bit by bit: what the library lacks.
+-- Exclusive or on numbers: it goes bit by bit, and is a commutative group. What the library lacks of it.
 -- Assumes nothing.
 use mathlib.Core.Path.{_≡_, refl, sym, ap, ap₂, _∙_}
+use mathlib.Core.Logic.{_⊎_, inl, inr}
 use Prim.Native.Nat.{ℕ, zero, suc, _+_, _*_, _/_, _%_, _<_}
 use native.Mathlib.Nat.{mod-lt, zero-lt-suc}
 use native.Mathlib.Omega.{arith}
@@ -9,6 +10,11 @@ use lib.Bits.{bitXor, differ, xor-step, xor-comm, xor-self, xor-zero-r, xor-bloc
 
 two-pos : zero < 2
 two-pos = zero-lt-suc 1
+
+pub bit-cases : (x : ℕ) → x < 2 → (x ≡ 0) ⊎ (x ≡ 1)
+bit-cases zero h = inl refl
+bit-cases (suc zero) h = inr refl
+bit-cases (suc (suc x)) h = absurd (omega arith)
 
 pub differ-lt : (x y : ℕ) → x < 2 → y < 2 → differ x y < 2
 differ-lt zero y hx hy = hy
