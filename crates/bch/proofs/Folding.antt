@@ -10,7 +10,8 @@ use lib.ListN.{getD}
 use lib.Bits.{bitXor}
 use lib.Pow.{shr-lt}
 use Rattle.bch.specs.Code.{step, feed, remainder, parity}
-use Rattle.bch.specs.Word.{wordOf, informationOf}
+use Rattle.bits.specs.Words.{wordOf}
+use Rattle.bch.specs.Word.{informationOf}
 use Rattle.bch.specs.Tables.{IsFold}
 use Rattle.bch.proofs.Remainder.{feed-lt, feed-append, feed-low, remainder-above, remainder-own, remainder-lead}
 

@@ -1,19 +1,17 @@
--- A word in two numbers: a bit turned over, what it decodes to, and a frame's words.
+-- A word in two numbers: a bit turned over, what it decodes to, and what is sent.
 -- Assumes nothing.
 use mathlib.Core.Path.{_≡_, refl, sym, ap, ap₂, _∙_, subst}
 use Prim.Native.Nat.{ℕ, zero, suc, _+_, _-_, _*_, _/_, _%_, _^_, _<_, _≤_}
 use native.Mathlib.Nat.{zero-add, add-zero, one-mul, mod-eq-of-lt}
 use native.Mathlib.Omega.{arith}
 use lib.Arith.{digits-div, digits-mod}
-use mathlib.Core.List.{List}
-use lib.ListN.{getD, set}
 use lib.Dec.{lit<}
 use lib.Pow.{pow-add, pow-lt}
 use lib.Bits.{bitXor, xor-block, xor-lt, xor-zero-r}
-use Rattle.bits.proofs.Filling.{Filling, filling-turn, filling-rest}
+use Rattle.bits.specs.Words.{wordOf}
 use Rattle.bch.specs.Code.{remainder, parity, coded, flipped}
 use Rattle.bch.specs.Mend.{mend, mended}
-use Rattle.bch.specs.Word.{wordOf, informationOf, decoded, wordAt, halfOf}
+use Rattle.bch.specs.Word.{informationOf, decoded}
 use Rattle.bch.specs.Tables.{Answers, Pattern}
 use Rattle.bch.specs.declared.Decoded.{Decoded}
 use Rattle.bch.specs.declared.Mend.{Mend}
@@ -65,36 +63,8 @@ decoded-is w s hi lo m l e a d =
       mend = r k;
     }
 
--- ---- a frame's words, two numbers a word
+-- ---- the two numbers of a word with its parity
 
-half-upper : (f : ℕ → ℕ) (i : ℕ) → f i / 2 ^ 64 ≡ halfOf f (2 * i)
-unfolding halfOf
-half-upper f i =
-    let e : 2 * i % 2 ≡ 0 = omega arith in
-    let d : 2 * i / 2 ≡ i = omega arith in
-    rw (e, d)
-
-half-lower : (f : ℕ → ℕ) (i : ℕ) → f i % 2 ^ 64 ≡ halfOf f (2 * i + 1)
-unfolding halfOf
-half-lower f i =
-    let e : (2 * i + 1) % 2 ≡ 1 = omega arith in
-    let d : (2 * i + 1) / 2 ≡ i = omega arith in
-    rw (e, d)
-
-module _ (f : ℕ → ℕ) {s₀ s : List ℕ} (i : ℕ) (F : Filling (halfOf f) 768 s₀ s (2 * i)) where
-  -- a word that is not reached yet
-  pub frame-word : wordOf (getD s (2 * i) 0) (getD s (2 * i + 1) 0) ≡ wordAt s₀ i
-  unfolding wordAt
-  frame-word = ap₂ wordOf (filling-rest (halfOf f) (2 * i) 0 F (omega arith)) (filling-rest (halfOf f) (2 * i + 1) 0 F (omega arith))
-
-  -- a turn that stores word i
-  pub frame-turn : (x y : ℕ) → i < 384 → x ≡ f i / 2 ^ 64 → y ≡ f i % 2 ^ 64 → Filling (halfOf f) 768 s₀ (set (set s (2 * i) x) (2 * i + 1) y) (2 * (i + 1))
-  frame-turn x y h ex ey =
-      let next : 2 * i + 1 + 1 ≡ 2 * (i + 1) = omega arith in
-      subst (Filling (halfOf f) 768 s₀ (set (set s (2 * i) x) (2 * i + 1) y)) next
-      (filling-turn (halfOf f) y (filling-turn (halfOf f) x F (omega arith) (ex ∙ half-upper f i)) (omega arith) (ey ∙ half-lower f i))
-
--- the two numbers of a word with its parity
 pub coded-halves : (hi lo w p : ℕ) → lo < 2 ^ 64 → wordOf hi lo ≡ w → p ≡ parity (informationOf (wordOf hi lo))
     → (hi % 2 ^ 62 ≡ coded (informationOf w) / 2 ^ 64) × (lo / 65536 * 65536 + p ≡ coded (informationOf w) % 2 ^ 64)
 unfolding wordOf coded

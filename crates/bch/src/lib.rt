@@ -5,7 +5,8 @@ ghost use Prim.Native.Nat.{ℕ, _<_, _≤_, _+_, _*_, _^_};
 ghost use lib.ListN.{getD, length};
 ghost use Rattle.bch.specs.Code.{step, feed, remainder, parity, flipped};
 ghost use Rattle.bch.specs.Mend.{mended, flagOf};
-ghost use Rattle.bch.specs.Word.{wordOf, informationOf, decoded, codedFrame, mendedFrame, flagsOf};
+ghost use Rattle.bits.specs.Words.{wordOf};
+ghost use Rattle.bch.specs.Word.{informationOf, decoded, codedFrame, mendedFrame, flagsOf};
 ghost use Rattle.bch.specs.Tables.{Answers, Within, IsFold, IsColumns, Finds, rising, valuesOf, pairOf, confirmed};
 
 mod tables;

@@ -1,5 +1,5 @@
 -- `bch::decode` meets its contract: the tables keep their rules. Assumes nothing.
-use Rattle.bch.specs.Word.{wordOf}
+use Rattle.bits.specs.Words.{wordOf}
 use Rattle.bch.proofs.Entries.{is-fold, is-columns, finds}
 use borrow.Author.Needs.{needs}
 use Rattle.bch.proofs.decode.Statement.{statement}

@@ -6,8 +6,9 @@ use lib.ListN.{length-set}
 use Rattle.bits.proofs.Filling.{Filling, filling-start, filling-turn, filling-done}
 use Rattle.bch.specs.declared.Decoded.{Decoded}
 use Rattle.bch.specs.Mend.{mend, mended, flagOf}
-use Rattle.bch.specs.Word.{wordOf, decoded, wordAt, halfOf, mendedFrame, flagsOf}
-use Rattle.bch.proofs.Halves.{frame-word, frame-turn}
+use Rattle.bits.specs.Words.{wordOf, wordAt, halfOf}
+use Rattle.bch.specs.Word.{decoded, mendedFrame, flagsOf}
+use Rattle.bits.proofs.Words.{row-word, row-turn}
 use native.Mathlib.Omega.{arith}
 use Rattle.bch.proofs.decode_words.Statement.{statement}
 use Rattle.bch.proofs.decode_words.Tie as tie
@@ -90,8 +91,8 @@ unfolding wordOf decoded
 loop-again c =
     let at = c .before .before .before .before .before .loop in
     let s = c .before .before .before .before .before .before .before .before .args .words .now in
-    let d : c .before .decode-word .result ≡ decoded (wordAt s (at .i)) = c .before .decode-word .ensures ∙ ap decoded (frame-word (passed s) (at .i) (at .inv .0)) in (
-      frame-turn (passed s) (at .i) (at .inv .0) _ _ (omega arith) (ap (λ (x : Decoded). x .hi) d) (ap (λ (x : Decoded). x .lo) d),
+    let d : c .before .decode-word .result ≡ decoded (wordAt s (at .i)) = c .before .decode-word .ensures ∙ ap decoded (row-word (passed s) (at .i) (at .inv .0)) in (
+      row-turn (passed s) (at .i) (at .inv .0) _ _ (omega arith) (ap (λ (x : Decoded). x .hi) d) (ap (λ (x : Decoded). x .lo) d),
       filling-turn (flagAt s) _ (at .inv .1) (omega arith) (c .flag .ensures ∙ ap (λ (x : Decoded). flagOf (x .mend)) d),
     )
 

@@ -4,8 +4,10 @@ use Prim.Native.Nat.{ℕ, _+_, _*_, _-_, _<_, _^_}
 use lib.ListN.{getD, length-set}
 use Rattle.bits.proofs.Filling.{Filling, filling-start, filling-done}
 use Rattle.bch.specs.Code.{coded}
-use Rattle.bch.specs.Word.{informationOf, wordAt, halfOf, codedFrame}
-use Rattle.bch.proofs.Halves.{parity-lt, frame-word, frame-turn, coded-halves}
+use Rattle.bits.specs.Words.{wordAt, halfOf}
+use Rattle.bch.specs.Word.{informationOf, codedFrame}
+use Rattle.bits.proofs.Words.{row-word, row-turn}
+use Rattle.bch.proofs.Halves.{parity-lt, coded-halves}
 use native.Mathlib.Omega.{arith}
 use Rattle.bch.proofs.encode_words.Statement.{statement}
 use Rattle.bch.proofs.encode_words.Tie as tie
@@ -84,8 +86,8 @@ loop-again c =
     let at = c .before .before .before .before .loop in
     let s = c .before .before .before .before .before .before .args .words .now in
     let small : getD (at .words) (2 * at .i + 1) 0 < 2 ^ 64 = omega (arith, c .before .slice-known3 .given (2 * at .i + 1)) in
-    let h = coded-halves _ _ (wordAt s (at .i)) _ small (frame-word (sent s) (at .i) (at .inv)) (c .parity .ensures) in
-    frame-turn (sent s) (at .i) (at .inv) _ _ (omega arith) (h .0) (h .1)
+    let h = coded-halves _ _ (wordAt s (at .i)) _ small (row-word (sent s) (at .i) (at .inv)) (c .parity .ensures) in
+    row-turn (sent s) (at .i) (at .inv) _ _ (omega arith) (h .0) (h .1)
 
 same-length : tie.Need-same-length Inv-loop μ-loop
 same-length c = omega arith

@@ -1,0 +1,48 @@
+-- Rows of words, two numbers a word: a row's words, and a loop over a row, whose invariant is `Filling` at 2 i numbers.
+-- Assumes nothing.
+use mathlib.Core.Path.{_≡_, sym, ap, ap₂, _∙_, subst}
+use mathlib.Core.List.{List}
+use Prim.Native.Nat.{ℕ, _+_, _*_, _/_, _%_, _^_, _<_}
+use native.Mathlib.Nat.{mod-eq-of-lt, div-add-mod'}
+use native.Mathlib.Omega.{arith}
+use lib.ListN.{getD, set}
+use lib.Pow.{shr-lt}
+use Rattle.bits.specs.Words.{wordOf, wordAt, halfOf, rowOf}
+use Rattle.bits.proofs.Tabulate.{getD-tabulate}
+use Rattle.bits.proofs.Filling.{Filling, filling-turn, filling-rest}
+
+half-upper : (f : ℕ → ℕ) (i : ℕ) → f i / 2 ^ 64 ≡ halfOf f (2 * i)
+unfolding halfOf
+half-upper f i =
+    let e : 2 * i % 2 ≡ 0 = omega arith in
+    let d : 2 * i / 2 ≡ i = omega arith in
+    rw (e, d)
+
+half-lower : (f : ℕ → ℕ) (i : ℕ) → f i % 2 ^ 64 ≡ halfOf f (2 * i + 1)
+unfolding halfOf
+half-lower f i =
+    let e : (2 * i + 1) % 2 ≡ 1 = omega arith in
+    let d : (2 * i + 1) / 2 ≡ i = omega arith in
+    rw (e, d)
+
+-- the row of the words f has the words f
+pub row-at : (n : ℕ) (f : ℕ → ℕ) (i : ℕ) → i < n → f i < 2 ^ 126 → wordAt (rowOf n f) i ≡ f i
+unfolding wordAt wordOf
+row-at n f i h l =
+    let upper : getD (rowOf n f) (2 * i) 0 ≡ f i / 2 ^ 64 = getD-tabulate (2 * n) (halfOf f) (2 * i) 0 (omega arith) ∙ sym (half-upper f i) in
+    let lower : getD (rowOf n f) (2 * i + 1) 0 ≡ f i % 2 ^ 64 = getD-tabulate (2 * n) (halfOf f) (2 * i + 1) 0 (omega arith) ∙ sym (half-lower f i) in
+    ap₂ (λ (x y : ℕ). x % 2 ^ 62 * 2 ^ 64 + y) upper lower
+    ∙ ap (λ (x : ℕ). x * 2 ^ 64 + f i % 2 ^ 64) (mod-eq-of-lt (shr-lt 62 64 l)) ∙ div-add-mod' (f i) (2 ^ 64)
+
+module _ (f : ℕ → ℕ) {l : ℕ} {s₀ s : List ℕ} (i : ℕ) (F : Filling (halfOf f) l s₀ s (2 * i)) where
+  -- a word that is not reached yet
+  pub row-word : wordOf (getD s (2 * i) 0) (getD s (2 * i + 1) 0) ≡ wordAt s₀ i
+  unfolding wordAt
+  row-word = ap₂ wordOf (filling-rest (halfOf f) (2 * i) 0 F (omega arith)) (filling-rest (halfOf f) (2 * i + 1) 0 F (omega arith))
+
+  -- a turn that stores word i
+  pub row-turn : (x y : ℕ) → 2 * i + 1 < l → x ≡ f i / 2 ^ 64 → y ≡ f i % 2 ^ 64 → Filling (halfOf f) l s₀ (set (set s (2 * i) x) (2 * i + 1) y) (2 * (i + 1))
+  row-turn x y h ex ey =
+      let next : 2 * i + 1 + 1 ≡ 2 * (i + 1) = omega arith in
+      subst (Filling (halfOf f) l s₀ (set (set s (2 * i) x) (2 * i + 1) y)) next
+      (filling-turn (halfOf f) y (filling-turn (halfOf f) x F (omega arith) (ex ∙ half-upper f i)) (omega arith) (ey ∙ half-lower f i))
