@@ -1,4 +1,4 @@
-//! A second program for the bench, written from the documents alone.
+//! The second program: the line's logic in plain Rust, written from the documents, to check and to time the proved code beside it.
 
 pub mod word;
 pub mod xorshift;

@@ -11,8 +11,8 @@ use lib.Dec.{T, eqb, eqb→eq, lit<, lit≤}
 use lib.ListN.{getD, length, drop}
 use lib.Bits.{bitXor}
 use Rattle.bits.proofs.Table.{each, range-rule, and-left, and-right}
-use Rattle.bch.specs.Code.{step, feed, remainder}
-use Rattle.bch.specs.Tables.{column, columns, Pattern, IsFold, IsColumns, Finds, pairOf, valuesOf, rising, placesOf}
+use Rattle.bch.specs.Code.{stepOf, feedOf, remainder}
+use Rattle.bch.specs.Tables.{column, columns, Pattern, IsFold, IsColumns, Finds, pairOf, valuesOf, risingOf, placesOf}
 use Rattle.bch.specs.declared.Pair.{Pair}
 use Rattle.bch.specs.declared.Mend.{Mend}
 use Rattle.bch.specs.declared.Mend.the-variants.{Clean, One, Two, Flagged}
@@ -133,31 +133,31 @@ bitColumns =
 -- ---- `FOLD`: its first 256 entries are the bytes times x^16, and each other is the one 256 before it times x^8
 
 first-ok : ℕ → Bool
-first-ok b = eqb (getD fold b 0) (feed b 16 0)
+first-ok b = eqb (getD fold b 0) (feedOf b 16 0)
 
 first-test : T (each first-ok 256 0)
-unfolding first-ok feed step
+unfolding first-ok feedOf stepOf
 first-test = tt
 
 next-ok : ℕ → Bool
-next-ok k = eqb (getD fold (256 + k) 0) (feed (getD fold k 0) 8 0)
+next-ok k = eqb (getD fold (256 + k) 0) (feedOf (getD fold k 0) 8 0)
 
 next-test : T (each next-ok 768 0)
-unfolding next-ok feed step
+unfolding next-ok feedOf stepOf
 next-test = tt
 
-fold-entry : (p b : ℕ) → p < 4 → b < 256 → getD fold (256 * p + b) 0 ≡ feed b (8 * p + 16) 0
+fold-entry : (p b : ℕ) → p < 4 → b < 256 → getD fold (256 * p + b) 0 ≡ feedOf b (8 * p + 16) 0
 unfolding first-ok next-ok
 fold-entry zero b h l =
-    ap (λ (k : ℕ). getD fold k 0) (zero-add b) ∙ eqb→eq (getD fold b 0) (feed b 16 0) (range-rule first-ok 256 0 first-test b (omega arith) l)
+    ap (λ (k : ℕ). getD fold k 0) (zero-add b) ∙ eqb→eq (getD fold b 0) (feedOf b 16 0) (range-rule first-ok 256 0 first-test b (omega arith) l)
 fold-entry (suc p) b h l =
     let e : 256 * suc p + b ≡ 256 + (256 * p + b) = omega arith in
     let f : 8 * p + 16 + 8 ≡ 8 * suc p + 16 = omega arith in
     ap (λ (k : ℕ). getD fold k 0) e
-    ∙ eqb→eq (getD fold (256 + (256 * p + b)) 0) (feed (getD fold (256 * p + b) 0) 8 0)
+    ∙ eqb→eq (getD fold (256 + (256 * p + b)) 0) (feedOf (getD fold (256 * p + b) 0) 8 0)
     (range-rule next-ok 768 0 next-test (256 * p + b) (omega arith) (omega arith))
-    ∙ ap (λ (x : ℕ). feed x 8 0) (fold-entry p b (omega arith) l)
-    ∙ feed-append b (8 * p + 16) 8 0 0 (lit< tt) ∙ ap (λ (k : ℕ). feed b k 0) f
+    ∙ ap (λ (x : ℕ). feedOf x 8 0) (fold-entry p b (omega arith) l)
+    ∙ feed-append b (8 * p + 16) 8 0 0 (lit< tt) ∙ ap (λ (k : ℕ). feedOf b k 0) f
 
 pub is-fold : IsFold fold
 is-fold = record { entry = fold-entry }
@@ -165,20 +165,20 @@ is-fold = record { entry = fold-entry }
 -- ---- `COLUMN`: its last entry is 1, and each other is the one behind it times x
 
 column-ok : ℕ → Bool
-column-ok i = eqb (getD bitColumns i 0) (step (getD bitColumns (suc i) 0) 0)
+column-ok i = eqb (getD bitColumns i 0) (stepOf (getD bitColumns (suc i) 0) 0)
 
 column-test : T (each column-ok 125 0)
-unfolding column-ok step
+unfolding column-ok stepOf
 column-test = tt
 
 column-up : (e : ℕ) → e < 126 → getD bitColumns (125 - e) 0 ≡ remainder 126 (2 ^ e)
-unfolding column-ok feed step
+unfolding column-ok feedOf stepOf
 column-up zero h = refl
 column-up (suc e) h =
     let i : suc (125 - suc e) ≡ 125 - e = omega arith in
-    eqb→eq (getD bitColumns (125 - suc e) 0) (step (getD bitColumns (suc (125 - suc e)) 0) 0)
+    eqb→eq (getD bitColumns (125 - suc e) 0) (stepOf (getD bitColumns (suc (125 - suc e)) 0) 0)
     (range-rule column-ok 125 0 column-test (125 - suc e) (omega arith) (omega arith))
-    ∙ ap (λ (x : ℕ). step x 0) (ap (λ (k : ℕ). getD bitColumns k 0) i ∙ column-up e (omega arith))
+    ∙ ap (λ (x : ℕ). stepOf x 0) (ap (λ (k : ℕ). getD bitColumns k 0) i ∙ column-up e (omega arith))
     ∙ sym (remainder-power 125 e (omega arith))
 
 column-entry : (i : ℕ) → i < 126 → getD bitColumns i 0 ≡ column i
@@ -207,7 +207,7 @@ one-ok : ℕ → Bool
 one-ok i = leads (getD bitColumns i 0) i i
 
 one-test : T (each one-ok 126 0)
-unfolding one-ok leads pairOf valuesOf rising
+unfolding one-ok leads pairOf valuesOf risingOf
 one-test = tt
 
 two-ok : ℕ → ℕ → Bool
@@ -217,19 +217,19 @@ row-ok : ℕ → Bool
 row-ok i = each (two-ok i) (125 - i) (suc i)
 
 rows-0 : T (each row-ok 18 0)
-unfolding row-ok two-ok leads pairOf valuesOf rising
+unfolding row-ok two-ok leads pairOf valuesOf risingOf
 rows-0 = tt
 
 rows-1 : T (each row-ok 20 18)
-unfolding row-ok two-ok leads pairOf valuesOf rising
+unfolding row-ok two-ok leads pairOf valuesOf risingOf
 rows-1 = tt
 
 rows-2 : T (each row-ok 22 38)
-unfolding row-ok two-ok leads pairOf valuesOf rising
+unfolding row-ok two-ok leads pairOf valuesOf risingOf
 rows-2 = tt
 
 rows-3 : T (each row-ok 65 60)
-unfolding row-ok two-ok leads pairOf valuesOf rising
+unfolding row-ok two-ok leads pairOf valuesOf risingOf
 rows-3 = tt
 
 rows : (i : ℕ) → i < 125 → T (row-ok i)
@@ -242,7 +242,7 @@ rows i h = go (decLt i 18) (decLt i 38) (decLt i 60)
     go (no a) (no b) (no d) = range-rule row-ok 65 60 rows-3 i (omega arith) (omega arith)
 
 pub finds : Finds field log ratio
-unfolding pairOf valuesOf rising Pattern columns placesOf one-ok two-ok row-ok
+unfolding pairOf valuesOf risingOf Pattern columns placesOf one-ok two-ok row-ok
 finds = record { places = lead }
   where
     lead : (m : Mend) → Pattern m → pairOf field log ratio (columns m) ≡ placesOf m

@@ -9,7 +9,7 @@ use lib.Dec.{lit<}
 use lib.Pow.{pow-add, pow-lt}
 use lib.Bits.{bitXor, xor-block, xor-lt, xor-zero-r}
 use Rattle.bits.specs.Words.{wordOf}
-use Rattle.bch.specs.Code.{remainder, parity, coded, flipped}
+use Rattle.bch.specs.Code.{remainder, parityOf, coded, flipped}
 use Rattle.bch.specs.Mend.{mend, mended}
 use Rattle.bch.specs.Word.{informationOf, decoded}
 use Rattle.bch.specs.Tables.{Answers, Pattern}
@@ -45,8 +45,8 @@ turn-low hi lo i l a b =
     (ap (λ (x : ℕ). x * 2 ^ 64 + bitXor lo (2 ^ (125 - i))) (sym (xor-zero-r hi))
     ∙ sym (xor-block 64 hi 0 lo (2 ^ (125 - i)) l p) ∙ ap (bitXor (hi * 2 ^ 64 + lo)) (zero-add (2 ^ (125 - i))))
 
-pub parity-lt : {p : ℕ} (m : ℕ) → p ≡ parity m → p < 65536
-unfolding parity
+pub parity-lt : {p : ℕ} (m : ℕ) → p ≡ parityOf m → p < 65536
+unfolding parityOf
 parity-lt m e = subst (λ (x : ℕ). x < 65536) (sym e) (remainder-lt 126 (m * 2 ^ 16))
 
 -- ---- what a word decodes to
@@ -65,7 +65,7 @@ decoded-is w s hi lo m l e a d =
 
 -- ---- the two numbers of a word with its parity
 
-pub coded-halves : (hi lo w p : ℕ) → lo < 2 ^ 64 → wordOf hi lo ≡ w → p ≡ parity (informationOf (wordOf hi lo))
+pub coded-halves : (hi lo w p : ℕ) → lo < 2 ^ 64 → wordOf hi lo ≡ w → p ≡ parityOf (informationOf (wordOf hi lo))
     → (hi % 2 ^ 62 ≡ coded (informationOf w) / 2 ^ 64) × (lo / 65536 * 65536 + p ≡ coded (informationOf w) % 2 ^ 64)
 unfolding wordOf coded
 coded-halves hi lo w p h e q =

@@ -15,7 +15,7 @@ use Rattle.bits.proofs.Xor.{xor-assoc, xor-zero-eq}
 use Rattle.bits.proofs.First.{Found, None, first-cases, first-cong, in-tabulate, of-tabulate, in-flatten, of-flatten}
 use Rattle.bch.specs.Code.{CodeWord, remainder, flipped}
 use Rattle.bch.specs.Mend.{pairs, patterns, mended, isCode, mend}
-use Rattle.bch.specs.Tables.{column, columns, Pattern, Answers, Within, IsColumns, Finds, pairOf, placesOf, rising, confirmed}
+use Rattle.bch.specs.Tables.{column, columns, Pattern, Answers, Within, IsColumns, Finds, pairOf, placesOf, risingOf, confirmed}
 use Rattle.bch.specs.declared.Pair.{Pair}
 use Rattle.bch.specs.declared.Mend.{Mend}
 use Rattle.bch.specs.declared.Mend.the-variants.{Clean, One, Two, Flagged}
@@ -78,8 +78,8 @@ answers-unique s m n (inr (e, a)) (inr (f, b)) = e ∙ sym f
 pub column-is : (t : List ℕ) (i : ℕ) {x : ℕ} → IsColumns t → i < 126 → x ≡ getD t i 0 → column i ≡ x
 column-is t i T h e = sym (e ∙ T .entry i h)
 
-rising-order : (x y : ℕ) → rising x y .low ≤ rising x y .high
-unfolding rising
+rising-order : (x y : ℕ) → risingOf x y .low ≤ risingOf x y .high
+unfolding risingOf
 rising-order x y = go (leb x y) refl
   where
     pair : Bool → Pair

@@ -1,21 +1,28 @@
 -- The word code keeps what specs/Demands states of it.
 -- Assumes nothing.
 use mathlib.Core.Path.{_≡_, refl, sym, ap, ap₂, _∙_, subst}
-use mathlib.Core.Logic.{_⊎_, inl, inr, _↔_}
+use mathlib.Core.Logic.{inl, inr}
+use mathlib.Core.List.{List}
 use Prim.Native.Nat.{ℕ, zero, suc, _+_, _*_, _/_, _%_, _^_, _<_, _≤_}
 use native.Mathlib.Nat.{mod-lt, zero-add, zero-mul, div-add-mod'}
 use native.Mathlib.Omega.{arith}
 use native.Mathlib.Decide.{ℕ-discrete, decLt}
 use lib.Arith.{digits-div, digits-lt}
 use lib.Dec.{lit<}
+use lib.ListN.{getD}
+use lib.Pow.{shr-lt}
 use lib.Bits.{bitXor, xor-block, xor-comm, xor-lt, xor-self, xor-shifted, xor-zero-r}
 use Rattle.bits.specs.Bits.{bitOf, count}
+use Rattle.bits.specs.Words.{wordOf, wordAt}
+use Rattle.bits.proofs.Tabulate.{getD-tabulate}
+use Rattle.bits.proofs.Words.{word-lt, word-join, row-at}
 use Rattle.bits.proofs.Xor.{xor-assoc, xor-cancel, xor-zero-eq}
 use Rattle.bits.proofs.Weight.{weight}
-use Rattle.bch.specs.Code.{CodeWord, multiple, distance, remainder, parity, coded}
+use Rattle.bch.specs.Code.{CodeWord, multiple, distance, remainder, parityOf, coded}
 use Rattle.bch.specs.Mend.{mend, mended, flagOf}
+use Rattle.bch.specs.Word.{informationOf, decoded, codedFrame, mendedFrame, flagsOf}
 use Rattle.bch.specs.Tables.{Pattern, columns, Answers}
-use Rattle.bch.specs.Demands.{SentIsCode, MendsTwo, FlaggedExactly, MendedIsCode, FlaggedPasses, SmallestDistance, ThreeFlagged, FlipsAlone}
+use Rattle.bch.specs.Demands.{SentIsCode, MendsTwo, FlaggedExactly, MendedIsCode, FlaggedPasses, TwoVanish, SmallestDistance, ThreeFlagged, FlipsAlone, WordCalls, FrameCalls}
 use Rattle.bch.specs.declared.Mend.{Mend}
 use Rattle.bch.specs.declared.Mend.the-variants.{Clean, One, Two, Flagged}
 use Rattle.bch.proofs.Remainder.{remainder-lt, remainder-xor, remainder-own, remainder-lead, code-remainder, remainder-code, remainder-code-xor, code-lt}
@@ -29,7 +36,7 @@ no-parity : (p : ℕ) → p < 65536 → remainder 126 p ≡ p
 no-parity p h = remainder-lead 110 16 p h ∙ remainder-own p h
 
 pub sent-is-code : SentIsCode
-unfolding coded parity
+unfolding coded parityOf
 sent-is-code m h = (
   remainder-code fits none,
   fits,
@@ -115,16 +122,19 @@ flagged-passes w f = go (mend w) f
     go (Two i j) e = absurd (omega arith)
     go Flagged e = refl
 
+pub nothing : CodeWord 0
+unfolding multiple
+nothing = record { quotient = 0; product = refl }
+
+pub two-vanish : TwoVanish
+two-vanish e h d = mends-two 0 e nothing h d .0
+
 -- ---- distances
 
 -- the multiple of the generator by x^19 + x^17 + x^15 + x^11 + x^10 + x^2 + 1 has six terms
 six : CodeWord 0x840100007
 unfolding multiple
 six = record { quotient = 0xA8C05; product = refl }
-
-nothing : CodeWord 0
-unfolding multiple
-nothing = record { quotient = 0; product = refl }
 
 pub smallest-distance : SmallestDistance
 unfolding distance count bitOf
@@ -145,3 +155,33 @@ flips-alone c e C =
       m,
       ap (mended (bitXor c e)) m ∙ mended-mask (bitXor c e) (mend e) ∙ xor-assoc c e (mask (mend e)) ∙ ap (bitXor c) (sym (mended-mask e (mend e))),
     )
+
+-- ---- what a call answers
+
+mended-lt : (w : ℕ) → w < 2 ^ 126 → mended w (mend w) < 2 ^ 126
+unfolding mended
+mended-lt w h = go (mend w) (mend-answers w)
+  where
+    go : (m : Mend) → Answers (remainder 126 w) m → mended w m < 2 ^ 126
+    go m (inl (P, e)) = rw (mended-mask w m) (xor-lt 126 w (mask m) h (mask-lt m P))
+    go m (inr (e, n)) = rw e h
+
+pub word-calls : WordCalls
+unfolding decoded
+word-calls hi lo h =
+    let w : wordOf hi lo < 2 ^ 126 = word-lt hi lo h in
+    let v = mended-lt (wordOf hi lo) w in
+    (w, shr-lt 110 16 w, shr-lt 62 64 v, mod-lt (mended (wordOf hi lo) (mend (wordOf hi lo))) (lit< tt), word-join (mended (wordOf hi lo) (mend (wordOf hi lo))) v)
+
+pub frame-calls : FrameCalls
+unfolding wordAt codedFrame mendedFrame flagsOf
+frame-calls s b i h =
+    let w : wordAt s i < 2 ^ 126 = at in (
+      w,
+      row-at 384 (λ i. coded (informationOf (wordAt s i))) i h (sent-is-code (informationOf (wordAt s i)) (shr-lt 110 16 w) .1),
+      row-at 384 (λ i. mended (wordAt s i) (mend (wordAt s i))) i h (mended-lt (wordAt s i) w),
+      getD-tabulate 384 (λ i. flagOf (mend (wordAt s i))) i 0 h,
+    )
+  where
+    at : wordAt s i < 2 ^ 126
+    at = word-lt (getD s (2 * i) 0) (getD s (2 * i + 1) 0) (b (2 * i + 1))

@@ -17,7 +17,7 @@ unfoldable pub multiple : ℕ → ℕ → ℕ
 multiple zero q = 0
 multiple (suc k) q = bitXor (multiple k (q / 2) * 2) (q % 2 * generator)
 
--- a code word: a multiple of the generator, of at most 126 bits since the quotient has 110
+-- a code word: the product of the generator and a polynomial of 110 coefficients, so of at most 126 bits
 pub record CodeWord (c : ℕ) : Type 0 where
   pub quotient : ℕ
   pub product : c ≡ multiple 110 quotient
@@ -27,25 +27,25 @@ unfoldable pub distance : ℕ → ℕ → ℕ
 distance v w = count (λ i. not (eqb (bitOf 126 v i) (bitOf 126 w i))) 126
 
 -- one more coefficient b below the remainder r: twice r and b, less the generator where a bit leaves at the top
-unfoldable pub step : ℕ → ℕ → ℕ
-step r b = bitXor (r * 2 + b) (r / 2 ^ 15 * generator)
+unfoldable pub stepOf : ℕ → ℕ → ℕ
+stepOf r b = bitXor (r * 2 + b) (r / 2 ^ 15 * generator)
 
 -- the coefficients that are the k low bits of w, the highest first, below the remainder r
-unfoldable pub feed : ℕ → ℕ → ℕ → ℕ
-feed r zero w = r
-feed r (suc k) w = step (feed r k (w / 2)) (w % 2)
+unfoldable pub feedOf : ℕ → ℕ → ℕ → ℕ
+feedOf r zero w = r
+feedOf r (suc k) w = stepOf (feedOf r k (w / 2)) (w % 2)
 
 -- the remainder by the generator of the polynomial of the k low bits of w
 abbrev pub remainder : ℕ → ℕ → ℕ
-remainder k w = feed 0 k w
+remainder k w = feedOf 0 k w
 
 -- the parity of 110 information bits: the remainder of their polynomial times x^16
-unfoldable pub parity : ℕ → ℕ
-parity m = remainder 126 (m * 2 ^ 16)
+unfoldable pub parityOf : ℕ → ℕ
+parityOf m = remainder 126 (m * 2 ^ 16)
 
 -- the word sent: the information bits, then their parity
 unfoldable pub coded : ℕ → ℕ
-coded m = m * 2 ^ 16 + parity m
+coded m = m * 2 ^ 16 + parityOf m
 
 -- the word with bit i turned over
 unfoldable pub flipped : ℕ → ℕ → ℕ

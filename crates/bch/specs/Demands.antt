@@ -3,9 +3,13 @@
 use mathlib.Core.Path.{_≡_}
 use mathlib.Core.Logic.{_≢_, _↔_}
 use Prim.Native.Nat.{ℕ, _+_, _*_, _/_, _^_, _<_, _≤_}
+use mathlib.Core.List.{List}
+use lib.ListN.{getD}
 use lib.Bits.{bitXor}
+use Rattle.bits.specs.Words.{wordOf, wordAt}
 use Rattle.bch.specs.Code.{CodeWord, distance, coded}
 use Rattle.bch.specs.Mend.{mend, mended, flagOf}
+use Rattle.bch.specs.Word.{informationOf, decoded, codedFrame, mendedFrame, flagsOf}
 
 -- what is sent is a code word of 126 bits that begins with the information bits, and no other code word does
 abbrev pub SentIsCode : Type 0
@@ -29,6 +33,10 @@ MendedIsCode = (w : ℕ) → w < 2 ^ 126 → flagOf (mend w) ≢ 3 → CodeWord 
 abbrev pub FlaggedPasses : Type 0
 FlaggedPasses = (w : ℕ) → flagOf (mend w) ≡ 3 → mended w (mend w) ≡ w
 
+-- demand 3: so at most two flips leave nothing wrong
+abbrev pub TwoVanish : Type 0
+TwoVanish = (e : ℕ) → e < 2 ^ 126 → distance e 0 ≤ 2 → mended e (mend e) ≡ 0
+
 -- the smallest distance is 6: two code words differ in six places or more, and two in six
 abbrev pub SmallestDistance : Type 0
 SmallestDistance =
@@ -44,3 +52,20 @@ abbrev pub FlipsAlone : Type 0
 FlipsAlone =
     (c e : ℕ) → CodeWord c
     → (mend (bitXor c e) ≡ mend e) × (mended (bitXor c e) (mend (bitXor c e)) ≡ bitXor c (mended e (mend e)))
+
+-- What a call answers is what the statements above speak of: any two numbers of 64 bits are a word, and the two numbers of what it decodes to are that word
+abbrev pub WordCalls : Type 0
+WordCalls =
+    (hi lo : ℕ) → lo < 2 ^ 64
+    → (wordOf hi lo < 2 ^ 126) × (informationOf (wordOf hi lo) < 2 ^ 110)
+    × (decoded (wordOf hi lo) .hi < 2 ^ 62) × (decoded (wordOf hi lo) .lo < 2 ^ 64)
+    × (wordOf (decoded (wordOf hi lo) .hi) (decoded (wordOf hi lo) .lo) ≡ mended (wordOf hi lo) (mend (wordOf hi lo)))
+
+-- and so it is with each word of a frame and its flag byte
+abbrev pub FrameCalls : Type 0
+FrameCalls =
+    (s : List ℕ) → ((j : ℕ) → getD s j 0 < 2 ^ 64) → (i : ℕ) → i < 384
+    → (wordAt s i < 2 ^ 126)
+    × (wordAt (codedFrame s) i ≡ coded (informationOf (wordAt s i)))
+    × (wordAt (mendedFrame s) i ≡ mended (wordAt s i) (mend (wordAt s i)))
+    × (getD (flagsOf s) i 0 ≡ flagOf (mend (wordAt s i)))

@@ -8,7 +8,7 @@ use Prim.Native.Nat.{ℕ, suc, _+_, _*_, _-_, _/_, _%_, _^_, _<_, _≤_}
 use lib.Bits.{bitXor}
 use lib.Dec.{eqb, ltb, leb}
 use lib.ListN.{getD}
-use Rattle.bch.specs.Code.{feed, remainder}
+use Rattle.bch.specs.Code.{feedOf, remainder}
 use Rattle.bch.specs.declared.Pair.{Pair}
 use Rattle.bch.specs.declared.Mend.{Mend}
 use Rattle.bch.specs.declared.Mend.the-variants.{Clean, One, Two, Flagged}
@@ -44,15 +44,15 @@ Within Flagged = Unit
 
 -- the table of `fold`: entry 256 p + b is the remainder of b times x^(8 p + 16)
 pub record IsFold (t : List ℕ) : Type 0 where
-  pub entry : (p b : ℕ) → p < 4 → b < 256 → getD t (256 * p + b) 0 ≡ feed b (8 * p + 16) 0
+  pub entry : (p b : ℕ) → p < 4 → b < 256 → getD t (256 * p + b) 0 ≡ feedOf b (8 * p + 16) 0
 
 -- the table of `confirm`: entry i is the remainder of bit i
 pub record IsColumns (t : List ℕ) : Type 0 where
   pub entry : (i : ℕ) → i < 126 → getD t i 0 ≡ column i
 
 -- two places in rising order
-unfoldable pub rising : ℕ → ℕ → Pair
-rising x y = cond (leb x y) (record { low = x; high = y }) (record { low = y; high = x })
+unfoldable pub risingOf : ℕ → ℕ → Pair
+risingOf x y = cond (leb x y) (record { low = x; high = y }) (record { low = y; high = x })
 
 -- the values of the remainder s at two elements of the field of 128, from its four hex digits
 unfoldable pub valuesOf : List ℕ → ℕ → ℕ
@@ -62,7 +62,7 @@ valuesOf field s =
 
 -- the places that the look-ups lead to from the remainder s: the place of the first value, moved by each half of the entry between the two
 unfoldable pub pairOf : (field log ratio : List ℕ) → ℕ → Pair
-pairOf field log ratio s = rising ((l + q % 128) % 127) ((l + q / 128) % 127)
+pairOf field log ratio s = risingOf ((l + q % 128) % 127) ((l + q / 128) % 127)
   where
     l : ℕ
     l = getD log (valuesOf field s % 128) 0

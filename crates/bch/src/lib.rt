@@ -3,11 +3,11 @@
 ghost use mathlib.Core.Path.{_≡_};
 ghost use Prim.Native.Nat.{ℕ, _<_, _≤_, _+_, _*_, _^_};
 ghost use lib.ListN.{getD, length};
-ghost use Rattle.bch.specs.Code.{step, feed, remainder, parity, flipped};
+ghost use Rattle.bch.specs.Code.{stepOf, feedOf, remainder, parityOf, flipped};
 ghost use Rattle.bch.specs.Mend.{mended, flagOf};
 ghost use Rattle.bits.specs.Words.{wordOf};
 ghost use Rattle.bch.specs.Word.{informationOf, decoded, codedFrame, mendedFrame, flagsOf};
-ghost use Rattle.bch.specs.Tables.{Answers, Within, IsFold, IsColumns, Finds, rising, valuesOf, pairOf, confirmed};
+ghost use Rattle.bch.specs.Tables.{Answers, Within, IsFold, IsColumns, Finds, risingOf, valuesOf, pairOf, confirmed};
 
 mod tables;
 
@@ -41,7 +41,7 @@ struct Word {
 // One more coefficient below a remainder.
 fn step(r: u64, b: u64) -> u64
     requires { ⌜ (r < 65536) × (b < 2) ⌝ }
-    ensures { λ v. ⌜ v ≡ step r b ⌝ }
+    ensures { λ v. ⌜ v ≡ stepOf r b ⌝ }
 {
     (r * 2 + b) ^ (r / 32768 * 0x14EAB)
 }
@@ -49,7 +49,7 @@ fn step(r: u64, b: u64) -> u64
 // The n low bits of w below a remainder, bit by bit.
 fn feed(start: u64, n: u64, w: u64) -> u64
     requires { ⌜ (start < 65536) × (n ≤ 64) ⌝ }
-    ensures { λ v. ⌜ (v ≡ feed start n w) × (v < 65536) ⌝ }
+    ensures { λ v. ⌜ (v ≡ feedOf start n w) × (v < 65536) ⌝ }
 {
     let mut r = start;
     let mut k = n;
@@ -62,7 +62,7 @@ fn feed(start: u64, n: u64, w: u64) -> u64
 
 // The parity of a word's information; the word's own parity bits are not looked at.
 pub fn parity(hi: u64, lo: u64) -> u64
-    ensures { λ r. ⌜ r ≡ parity (informationOf (wordOf hi lo)) ⌝ }
+    ensures { λ r. ⌜ r ≡ parityOf (informationOf (wordOf hi lo)) ⌝ }
 {
     let upper = feed(0, 62, hi);
     let lower = feed(upper, 48, lo >> 16);
@@ -82,7 +82,7 @@ fn entry(t: &[u16], k: u64) -> u64
 fn fold(t: &[u16; 1024], r: u64, w: u64) -> u64
     requires { ⌜ IsFold (now t) ⌝ }
     requires { ⌜ (r < 65536) × (w < 2 ^ 32) ⌝ }
-    ensures { λ v. ⌜ (v ≡ feed r 32 w) × (v < 65536) ⌝ }
+    ensures { λ v. ⌜ (v ≡ feedOf r 32 w) × (v < 65536) ⌝ }
 {
     let a = entry(t, w / 65536 % 256);
     let b = entry(t, 256 + w / 16777216);
@@ -117,7 +117,7 @@ fn values(field: &[u16; 64], s: u64) -> u64
 
 // Two places in rising order.
 fn rising(x: u64, y: u64) -> Pair
-    ensures { λ r. ⌜ r ≡ rising x y ⌝ }
+    ensures { λ r. ⌜ r ≡ risingOf x y ⌝ }
 {
     if x <= y {
         Pair { low: x, high: y }

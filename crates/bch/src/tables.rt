@@ -1,4 +1,5 @@
-// The tables of the decoder. proofs/Entries holds them as lists, with the rule of each, by a test over the whole table.
+// The tables of the decoder. proofs/Entries holds them as lists, with their rules: of FOLD and COLUMN by a test over the table, of the other three
+// together by a test over all 8,002 patterns of at most two bits.
 
 // The remainder of b times x^(8 p + 16), at 256 p + b.
 pub const FOLD: [u16; 1024] = [

@@ -3,9 +3,11 @@
 use mathlib.Core.Path.{_≡_, sym, ap, ap₂, _∙_, subst}
 use mathlib.Core.List.{List}
 use Prim.Native.Nat.{ℕ, _+_, _*_, _/_, _%_, _^_, _<_}
-use native.Mathlib.Nat.{mod-eq-of-lt, div-add-mod'}
+use native.Mathlib.Nat.{mod-lt, mod-eq-of-lt, div-add-mod'}
 use native.Mathlib.Omega.{arith}
 use lib.ListN.{getD, set}
+use lib.Arith.{digits-lt}
+use lib.Dec.{lit<}
 use lib.Pow.{shr-lt}
 use Rattle.bits.specs.Words.{wordOf, wordAt, halfOf, rowOf}
 use Rattle.bits.proofs.Tabulate.{getD-tabulate}
@@ -25,14 +27,22 @@ half-lower f i =
     let d : (2 * i + 1) / 2 ≡ i = omega arith in
     rw (e, d)
 
+-- any two numbers are a word, and a word is its two numbers
+pub word-lt : (hi lo : ℕ) → lo < 2 ^ 64 → wordOf hi lo < 2 ^ 126
+unfolding wordOf
+word-lt hi lo h = digits-lt (mod-lt hi (lit< tt)) h
+
+pub word-join : (w : ℕ) → w < 2 ^ 126 → wordOf (w / 2 ^ 64) (w % 2 ^ 64) ≡ w
+unfolding wordOf
+word-join w h = ap (λ (x : ℕ). x * 2 ^ 64 + w % 2 ^ 64) (mod-eq-of-lt (shr-lt 62 64 h)) ∙ div-add-mod' w (2 ^ 64)
+
 -- the row of the words f has the words f
 pub row-at : (n : ℕ) (f : ℕ → ℕ) (i : ℕ) → i < n → f i < 2 ^ 126 → wordAt (rowOf n f) i ≡ f i
-unfolding wordAt wordOf
+unfolding wordAt
 row-at n f i h l =
-    let upper : getD (rowOf n f) (2 * i) 0 ≡ f i / 2 ^ 64 = getD-tabulate (2 * n) (halfOf f) (2 * i) 0 (omega arith) ∙ sym (half-upper f i) in
-    let lower : getD (rowOf n f) (2 * i + 1) 0 ≡ f i % 2 ^ 64 = getD-tabulate (2 * n) (halfOf f) (2 * i + 1) 0 (omega arith) ∙ sym (half-lower f i) in
-    ap₂ (λ (x y : ℕ). x % 2 ^ 62 * 2 ^ 64 + y) upper lower
-    ∙ ap (λ (x : ℕ). x * 2 ^ 64 + f i % 2 ^ 64) (mod-eq-of-lt (shr-lt 62 64 l)) ∙ div-add-mod' (f i) (2 ^ 64)
+    ap₂ wordOf (getD-tabulate (2 * n) (halfOf f) (2 * i) 0 (omega arith) ∙ sym (half-upper f i))
+    (getD-tabulate (2 * n) (halfOf f) (2 * i + 1) 0 (omega arith) ∙ sym (half-lower f i))
+    ∙ word-join (f i) l
 
 module _ (f : ℕ → ℕ) {l : ℕ} {s₀ s : List ℕ} (i : ℕ) (F : Filling (halfOf f) l s₀ s (2 * i)) where
   -- a word that is not reached yet

@@ -2,20 +2,20 @@
 use mathlib.Core.Path.{_≡_, _∙_}
 use Prim.Native.Nat.{_≤_, _<_, _-_, _/_, _^_}
 use native.Mathlib.Nat.{sub-self, sub-zero, pow-zero, div-one}
-use Rattle.bch.specs.Code.{feed}
+use Rattle.bch.specs.Code.{feedOf}
 use Rattle.bch.proofs.Folding.{feed-turn}
 use native.Mathlib.Omega.{arith}
 use Rattle.bch.proofs.feed.Statement.{statement}
 use Rattle.bch.proofs.feed.Tie as tie
 
 abbrev Inv-loop : tie.InvT-loop
-Inv-loop start n w r₀ k₀ r k = (k ≤ n) × (r ≡ feed start (n - k) (w / 2 ^ k)) × (r < 65536)
+Inv-loop start n w r₀ k₀ r k = (k ≤ n) × (r ≡ feedOf start (n - k) (w / 2 ^ k)) × (r < 65536)
 
 abbrev μ-loop : tie.MeasureT-loop
 μ-loop start n w r₀ k₀ r k = k
 
 loop-holds : tie.Need-loop-holds Inv-loop μ-loop
-unfolding feed
+unfolding feedOf
 loop-holds c = (omega arith, rw sub-self, omega arith)
 
 sub-k : tie.Need-sub-k Inv-loop μ-loop

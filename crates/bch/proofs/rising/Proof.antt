@@ -1,15 +1,15 @@
 -- `bch::rising` meets its contract: the test is the definition's. Assumes nothing.
 use borrow.Author.Tests.{le-leb, lt-leb}
-use Rattle.bch.specs.Tables.{rising}
+use Rattle.bch.specs.Tables.{risingOf}
 use Rattle.bch.proofs.rising.Statement.{statement}
 use Rattle.bch.proofs.rising.Tie as tie
 
 returns : tie.Need-returns
-unfolding rising
+unfolding risingOf
 returns c = simp (le-leb _ _ (c .if1 .taken))
 
 returns-2 : tie.Need-returns-2
-unfolding rising
+unfolding risingOf
 returns-2 c = simp (lt-leb _ _ (c .if1 .left))
 
 pub rising-spec : {M : Type 1} → statement M

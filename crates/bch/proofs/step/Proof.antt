@@ -1,5 +1,5 @@
 -- `bch::step` meets its contract: the code is the definition. Assumes nothing.
-use Rattle.bch.specs.Code.{step}
+use Rattle.bch.specs.Code.{stepOf}
 use borrow.Author.Needs.{needs}
 use Rattle.bch.proofs.step.Statement.{statement}
 use Rattle.bch.proofs.step.Tie as tie
@@ -14,7 +14,7 @@ mul-result-2 : tie.Need-mul-result-2
 mul-result-2 c = search needs
 
 returns : tie.Need-returns
-unfolding step
+unfolding stepOf
 returns c = search needs
 
 pub step-spec : {M : Type 1} → statement M
