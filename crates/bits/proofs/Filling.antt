@@ -1,16 +1,17 @@
 -- A loop that fills a buffer from the front: `while i < n { out[i] = v; i += 1 }`. `Filling` is its invariant; `filling-start`, `filling-turn` and
 -- `filling-done` answer where the loop begins, after a turn and at the end; `filling-put` a turn that lends a part to a callee. The measure is n - i.
 -- Assumes nothing.
-use mathlib.Core.Path.{_≡_, refl, sym, ap, _∙_, subst}
+use mathlib.Core.Path.{_≡_, refl, sym, ap, ap₂, _∙_, subst}
+use mathlib.Core.Logic.{_⊎_, inl, inr}
 use mathlib.Core.List.{List, [], _∷_, _++_, append-nil, append-assoc}
 use Prim.Native.Nat.{ℕ, zero, suc, _+_, _-_, _≤_, _<_, zero-le}
 use native.Mathlib.Nat.{not-suc-le-zero, le-of-suc-le-suc, le-refl, add-zero}
 use native.Mathlib.Numerals.{add-one}
 use native.Mathlib.Omega.{arith}
-use lib.ListN.{length, getD, set, drop, take, length-append, length-take, length-drop, length-set}
-use lib.Seq.{drop-length, take-at, drop-append-add, drop-drop, getD-append-add, getD-drop}
-use Rattle.bits.specs.Bits.{tabulate}
-use Rattle.bits.proofs.Tabulate.{length-tabulate, tabulate-cong, tabulate-append}
+use lib.ListN.{length, getD, set, drop, take, length-append, length-take, length-drop, length-set, drop-of-length-le}
+use lib.Seq.{length-take-le, getD-take, take-all, take-length, drop-length, take-at, drop-append-add, drop-drop, getD-append-add, getD-drop}
+use Rattle.bits.specs.Bits.{tabulate, copied}
+use Rattle.bits.proofs.Tabulate.{length-tabulate, tabulate-cong, tabulate-append, is-tabulate}
 
 -- out holds the first i elements of the table of f, and then what out₀ had; both are n long
 pub record Filling {A : Type 0} (f : ℕ → A) (n : ℕ) (out₀ out : List A) (i : ℕ) : Type 0 where
@@ -99,3 +100,29 @@ module _ {A : Type 0} (f : ℕ → A) {n : ℕ} {out₀ : List A} where
           (λ k. front k ++ (middle k ++ back k))
           ∙ sym (append-assoc (tabulate i f) (tabulate m (λ j. f (i + j))) (drop e out₀))
           ∙ ap (λ (t : List A). t ++ drop e out₀) (sym (tabulate-append i m f) ∙ ap (λ (k : ℕ). tabulate k f) whole)
+
+-- a buffer filled from another as far as both go holds what was copied
+pub filling-copied : {A : Type 0} (d : A) (from : List A) {l : ℕ} {out₀ out : List A} {n : ℕ} → Filling (λ i. getD from i d) l out₀ out n → n ≤ length from
+    → (length from ≤ n) ⊎ (l ≤ n) → out ≡ copied from out₀
+unfolding copied
+filling-copied d from {l} {out₀} {out} {n} F h e =
+    F .is ∙ ap₂ _++_ (sym (is-tabulate d (take n from) n (λ i. getD from i d) (length-take-le n from h) (λ i b. getD-take n from i d b))) refl ∙ go e
+  where
+    go : (length from ≤ n) ⊎ (l ≤ n) → take n from ++ drop n out₀ ≡ take (length out₀) from ++ drop (length from) out₀
+    go (inl a) =
+        let q : n ≡ length from = omega arith in
+        let b : length from ≤ length out₀ = omega (arith, F .long₀, F .upto) in
+        ap₂ _++_ (ap (λ (k : ℕ). take k from) q ∙ take-length from ∙ sym (take-all (length out₀) from b)) (ap (λ (k : ℕ). drop k out₀) q)
+    go (inr a) =
+        let q : n ≡ length out₀ = omega (arith, F .long₀, F .upto) in
+        let b : length out₀ ≤ length from = omega arith in
+        ap₂ _++_ (ap (λ (k : ℕ). take k from) q)
+        (ap (λ (k : ℕ). drop k out₀) q ∙ drop-length out₀ ∙ sym (drop-of-length-le out₀ b))
+
+-- where they are equally long, that is the other
+pub copied-all : {A : Type 0} (a b : List A) → length a ≡ length b → copied a b ≡ a
+unfolding copied
+copied-all a b e =
+    let l : length b ≤ length a = omega arith in
+    let r : length a ≤ length b = omega arith in
+    ap₂ _++_ (take-all (length b) a r) (drop-of-length-le b l) ∙ append-nil a

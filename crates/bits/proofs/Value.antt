@@ -6,7 +6,7 @@ use native.Mathlib.Nat.{le-refl, sub-self, add-zero, add-suc, add-assoc, mul-one
 use native.Mathlib.Numerals.{add-one}
 use native.Mathlib.Omega.{arith}
 use lib.Arith.{digits-lt, digits-div, digits-mod}
-use lib.Bits.{bitXor, differ, xor-shr}
+use lib.Bits.{bitAnd, bitXor, differ, and-shr, and-mod, xor-shr}
 use Rattle.bits.specs.Bits.{value, number, bitOf}
 use Rattle.bits.proofs.Xor.{xor-odd}
 
@@ -84,6 +84,10 @@ bit-ext n a b ha hb h = sym (number-bits n a ha) ∙ value-cong 2 n (bitOf n a) 
 pub bit-xor : (n a b i : ℕ) → bitOf n (bitXor a b) i ≡ differ (bitOf n a i) (bitOf n b i)
 unfolding bitOf
 bit-xor n a b i = let k = n - 1 - i in ap (λ (x : ℕ). x % 2) (xor-shr a b k) ∙ xor-odd (a / 2 ^ k) (b / 2 ^ k)
+
+pub bit-and : (n a b i : ℕ) → bitOf n (bitAnd a b) i ≡ bitAnd (bitOf n a i) (bitOf n b i)
+unfolding bitOf
+bit-and n a b i = let k = n - 1 - i in ap (λ (x : ℕ). x % 2) (and-shr a b k) ∙ and-mod (a / 2 ^ k) (b / 2 ^ k) 1
 
 pub differ-mod : (x y : ℕ) → x < 2 → y < 2 → differ x y ≡ (x + y) % 2
 differ-mod zero y hx hy = omega arith

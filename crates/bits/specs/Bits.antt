@@ -2,9 +2,9 @@
 -- numbers). And counting, and the first of a list.
 -- Assumes nothing.
 use mathlib.Core.Bool.{Bool, true, false, cond}
-use mathlib.Core.List.{List, [], _∷_}
+use mathlib.Core.List.{List, [], _∷_, _++_}
 use Prim.Native.Nat.{ℕ, zero, suc, _+_, _*_, _-_, _/_, _%_, _^_}
-use lib.ListN.{getD}
+use lib.ListN.{getD, length, take, drop}
 
 -- the list f 0, f 1, .., f (n - 1)
 unfoldable pub tabulate : {A : Type 0} → ℕ → (ℕ → A) → List A
@@ -35,6 +35,10 @@ fieldAt s i n = number n (λ q. bitAt s (i + q))
 -- the n bytes whose bits are f 0, f 1, ..
 unfoldable pub bytes : ℕ → (ℕ → ℕ) → List ℕ
 bytes n f = tabulate n (λ b. number 8 (λ i. f (8 * b + i)))
+
+-- the elements of a over those of b, as far as both go
+unfoldable pub copied : {A : Type 0} → List A → List A → List A
+copied a b = take (length b) a ++ drop (length a) b
 
 -- how many i below n pass the test
 unfoldable pub count : (ℕ → Bool) → ℕ → ℕ

@@ -1,6 +1,9 @@
-// Bits, and the laws of them that every other crate cites. The code is what widens a number without a question asked.
+// Bits, words and rows, and the laws of them that every other crate cites. The code is what widens a number or copies bytes without a question asked.
 ghost use mathlib.Core.Path.{_≡_};
-ghost use Prim.Native.Nat.{_<_};
+ghost use mathlib.Core.Logic.{_⊎_};
+ghost use Prim.Native.Nat.{_<_, _≤_};
+ghost use lib.ListN.{length};
+ghost use Rattle.bits.specs.Bits.{copied};
 
 // A byte as a number of 64 bits.
 pub fn wide8(x: u8) -> u64
@@ -14,4 +17,28 @@ pub fn wide16(x: u16) -> u64
     ensures { λ r. ⌜ (r ≡ x) × (r < 65536) ⌝ }
 {
     x as u64
+}
+
+// The first n bytes of from over those of to.
+fn copy_first(n: usize, from: &[u8], to: &mut [u8])
+    requires { ⌜ (n ≤ length (now from)) × (n ≤ length (now to)) ⌝ }
+    requires { ⌜ (length (now from) ≤ n) ⊎ (length (now to) ≤ n) ⌝ }
+    ensures { λ _. ⌜ now (to .exit) ≡ copied (now (from .entry)) (now (to .entry)) ⌝ }
+{
+    let mut i: usize = 0;
+    while i < n {
+        to[i] = from[i];
+        i += 1;
+    }
+}
+
+// The bytes of from over those of to, as far as both go.
+pub fn copy(from: &[u8], to: &mut [u8])
+    ensures { λ _. ⌜ now (to .exit) ≡ copied (now (from .entry)) (now (to .entry)) ⌝ }
+{
+    if from.len() < to.len() {
+        copy_first(from.len(), from, to);
+    } else {
+        copy_first(to.len(), from, to);
+    }
 }

@@ -1,0 +1,342 @@
+-- Permutation and interleaver by whole bytes: what the code stores is, bit by bit, what the definitions say.
+-- Assumes nothing.
+use mathlib.Core.Path.{_≡_, refl, sym, ap, ap₂, _∙_, subst}
+use mathlib.Core.Bool.{Bool, true, false, cond}
+use mathlib.Core.Logic.{_⊎_, inl, inr}
+use mathlib.Core.List.{List, _++_}
+use Prim.Native.Nat.{ℕ, zero, suc, _+_, _-_, _*_, _/_, _%_, _^_, _<_, _≤_}
+use native.Mathlib.Nat.{lt-of-le-of-lt, mod-lt, div-add-mod', mul-add, mul-suc, mul-comm, add-assoc, mul-left-comm}
+use native.Mathlib.Numerals.{add-one}
+use lib.Arith.{digits-div, digits-mod}
+use native.Mathlib.Omega.{arith}
+use lib.Dec.{eqb, ltb, lit<}
+use lib.ListN.{getD, set, length, take, drop}
+use lib.Bits.{bitAnd, bitXor, and-le-l, xor-lt, xor-shr, xor-mod}
+use borrow.Author.Tests.{lt-ltb, le-ltb, ltb-true, ltb-false}
+use Rattle.bits.specs.Bits.{tabulate, value, number, bitOf, bitAt, bytes}
+use Rattle.bits.proofs.Tabulate.{tabulate-cong}
+use Rattle.bits.proofs.Filling.{Filling, filling-turn, filling-at, filling-put}
+use Rattle.bits.proofs.Value.{value-cong, bit-lt, bit-and, number-bits}
+use Rattle.bits.proofs.Fields.{Bytes, bitAt-lt, bitAt-byte, bytes-bit, bytes-cong, bytes-bytes}
+use Rattle.lanes.specs.Permutation.{Lanes, Places, named, partner, permuted, lanesOf, frameOf}
+use Rattle.lanes.specs.Interleaver.{Rows, stored, woven, rowAt, storeBit, storeNext}
+use Rattle.lanes.specs.Blocks.{Merged, IsMasks, blockByte, outFrom, keptFrom, source, IsSource}
+
+-- ---- the permutation
+
+bit-sum : (n a b i : ℕ) → bitOf n (bitXor a b) i ≡ bitXor (bitOf n a i) (bitOf n b i)
+unfolding bitOf
+bit-sum n a b i = let k = n - 1 - i in ap (λ (x : ℕ). x % 2) (xor-shr a b k) ∙ xor-mod (a / 2 ^ k) (b / 2 ^ k) 1
+
+-- `a ^ ((a ^ b) & m)`
+pub merged : (a b m : ℕ) → a < 256 → b < 256 → Merged a b m (bitXor a (bitAnd (bitXor a b) m))
+merged a b m ha hb =
+    record {
+      byte = xor-lt 8 a (bitAnd (bitXor a b) m) ha (lt-of-le-of-lt (and-le-l (bitXor a b) m) (xor-lt 8 a b ha hb));
+      bit = λ k h.
+          bit-sum 8 a (bitAnd (bitXor a b) m) k
+          ∙ ap (bitXor (bitOf 8 a k)) (bit-and 8 (bitXor a b) m k ∙ ap (λ (x : ℕ). bitAnd x (bitOf 8 m k)) (bit-sum 8 a b k))
+          ∙ pick (bitOf 8 a k) (bitOf 8 b k) (bitOf 8 m k) (bit-lt 8 a k) (bit-lt 8 b k) (bit-lt 8 m k);
+    }
+  where
+    pick : (x y z : ℕ) → x < 2 → y < 2 → z < 2 → bitXor x (bitAnd (bitXor x y) z) ≡ cond (eqb z 1) y x
+    pick zero zero zero hx hy hz = refl
+    pick zero zero (suc zero) hx hy hz = refl
+    pick zero (suc zero) zero hx hy hz = refl
+    pick zero (suc zero) (suc zero) hx hy hz = refl
+    pick (suc zero) zero zero hx hy hz = refl
+    pick (suc zero) zero (suc zero) hx hy hz = refl
+    pick (suc zero) (suc zero) zero hx hy hz = refl
+    pick (suc zero) (suc zero) (suc zero) hx hy hz = refl
+    pick zero zero (suc (suc z)) hx hy hz = absurd (omega arith)
+    pick zero (suc zero) (suc (suc z)) hx hy hz = absurd (omega arith)
+    pick (suc zero) zero (suc (suc z)) hx hy hz = absurd (omega arith)
+    pick (suc zero) (suc zero) (suc (suc z)) hx hy hz = absurd (omega arith)
+    pick zero (suc (suc y)) z hx hy hz = absurd (omega arith)
+    pick (suc zero) (suc (suc y)) z hx hy hz = absurd (omega arith)
+    pick (suc (suc x)) y z hx hy hz = absurd (omega arith)
+
+-- a byte by its bits
+by-bits : (v : ℕ) (f : ℕ → ℕ) → v < 256 → ((k : ℕ) → k < 8 → bitOf 8 v k ≡ f k) → v ≡ number 8 f
+by-bits v f h e = sym (number-bits 8 v h) ∙ value-cong 2 8 (bitOf 8 v) f e
+
+-- byte i of a row of lanes of L bytes is byte i % 5 of a block: its bits, with bits counted in the lane
+module _ (L : ℕ) (five : (i : ℕ) → i % L % 5 ≡ i % 5) (pos : 0 < L) where
+  lane-of : (i k : ℕ) → k < 8 → ((8 * i + k) / (8 * L) ≡ i / L) × ((8 * i + k) % (8 * L) ≡ 40 * (i % L / 5) + (8 * (i % 5) + k))
+  lane-of i k h =
+      let P : ℕ = i / L in
+      let R : ℕ = i % L in
+      let r : R < L = mod-lt i pos in
+      let l : 8 * R + k < 8 * L = omega arith in
+      let whole : 8 * i + k ≡ P * (8 * L) + (8 * R + k) =
+      ap (λ (x : ℕ). 8 * x + k) (sym (div-add-mod' i L)) ∙ ap (λ (x : ℕ). x + k) (mul-add 8 (P * L) R) ∙ add-assoc (8 * (P * L)) (8 * R) k
+      ∙ ap (λ (x : ℕ). x + (8 * R + k)) (mul-left-comm 8 P L) in
+      let c : R % 5 ≡ i % 5 = five i in
+      let inside : 8 * R + k ≡ 40 * (R / 5) + (8 * (R % 5) + k) = omega arith in (
+        ap (λ (x : ℕ). x / (8 * L)) whole ∙ digits-div P l,
+        ap (λ (x : ℕ). x % (8 * L)) whole ∙ digits-mod P l ∙ inside ∙ ap (λ (x : ℕ). 40 * (R / 5) + (8 * x + k)) c,
+      )
+
+  lane-byte : (X : Lanes) (i : ℕ)
+      → number 8 (λ k. X ((8 * i + k) / (8 * L)) ((8 * i + k) % (8 * L))) ≡ number 8 (λ k. X (i / L) (40 * (i % L / 5) + (8 * (i % 5) + k)))
+  lane-byte X i = value-cong 2 8 _ _ (λ k h. let e = lane-of i k h in λ z. X (e .0 z) (e .1 z))
+
+pub five-165 : (i : ℕ) → i % 165 % 5 ≡ i % 5
+five-165 i = omega arith
+
+pub five-90 : (i : ℕ) → i % 90 % 5 ≡ i % 5
+five-90 i = omega arith
+
+-- a bit of a block stands at a place of its four symbols
+symbol-place : (b m : ℕ) → m < 40 → m / 10 ≡ (40 * b + m) / 10 % 4
+symbol-place b m h = omega arith
+
+-- byte i of the permuted frame
+pub permuted-byte : (t : List ℕ) → IsMasks t → (e i v : ℕ) (x : List ℕ) → e < 16 → i < 5280
+    → Merged (getD x i 0) (getD x ((i + 2640) % 5280) 0) (getD t (5 * e + i % 5) 0) v
+    → v ≡ number 8 (λ k. permuted (named e) (lanesOf x) ((8 * i + k) / 1320) ((8 * i + k) % 1320))
+unfolding permuted
+permuted-byte t T e i v x he hi M = by-bits v _ (M .byte) bit ∙ sym (lane-byte 165 five-165 (lit< tt) (permuted (named e) (lanesOf x)) i)
+  where
+    p : ℕ
+    p = i / 165
+
+    b : ℕ
+    b = i % 165 / 5
+
+    c : ℕ
+    c = i % 5
+
+    bit : (k : ℕ) → k < 8 → bitOf 8 v k ≡ permuted (named e) (lanesOf x) p (40 * b + (8 * c + k))
+    bit k h =
+        let r : i % 165 % 5 ≡ c = five-165 i in
+        let own : 8 * i + k ≡ 1320 * p + (40 * b + (8 * c + k)) = omega arith in
+        let there : (i + 2640) % 5280 ≡ 165 * partner p + i % 165 = omega arith in
+        let other : 8 * ((i + 2640) % 5280) + k ≡ 1320 * partner p + (40 * b + (8 * c + k)) = omega arith in
+        M .bit k h
+        ∙ (λ z. cond ((T .entry e c k he (omega arith) h ∙ ap (named e) (symbol-place b (8 * c + k) (omega arith))) z)
+        ((sym (bitAt-byte x ((i + 2640) % 5280) k h) ∙ ap (bitAt x) other) z)
+        ((sym (bitAt-byte x i k h) ∙ ap (bitAt x) own) z))
+
+-- ---- whole blocks
+
+module _ (x s : List ℕ) where
+  -- a bit of one of the frame's blocks, and of one of the store's
+  out-bit : (p b c k : ℕ) → b < 33 → k < 8 → bitOf 8 (blockByte x s p b c) k ≡ lanesOf x p (40 * b + (8 * c + k))
+  unfolding blockByte
+  out-bit p b c k hb hk =
+      let e : 8 * (165 * p + 5 * b + c) + k ≡ 1320 * p + (40 * b + (8 * c + k)) = omega arith in
+      rw (lt-ltb b 33 hb) (sym (bitAt-byte x (165 * p + 5 * b + c) k hk) ∙ ap (bitAt x) e)
+
+  kept-bit : (p q c k : ℕ) → k < 8 → bitOf 8 (blockByte x s p (33 + q) c) k ≡ stored s p (40 * q + (8 * c + k))
+  unfolding blockByte
+  kept-bit p q c k hk =
+      let d : 33 + q - 33 ≡ q = omega arith in
+      let l : 33 ≤ 33 + q = omega arith in
+      let e : 8 * (90 * p + 5 * q + c) + k ≡ 720 * p + (40 * q + (8 * c + k)) = omega arith in
+      rw (le-ltb (33 + q) 33 l, d) (sym (bitAt-byte s (90 * p + 5 * q + c) k hk) ∙ ap (bitAt s) e)
+
+  block-lt : Bytes x → Bytes s → (p b c : ℕ) → blockByte x s p b c < 256
+  unfolding blockByte
+  block-lt X S p b c = go (ltb b 33)
+    where
+      go : (t : Bool) → cond t (getD x (165 * p + 5 * b + c) 0) (getD s (90 * p + 5 * (b - 33) + c) 0) < 256
+      go true = X .byte (165 * p + 5 * b + c)
+      go false = S .byte (90 * p + 5 * (b - 33) + c)
+
+-- what the code stores for the table t of a stage
+module _ (R : Rows) (t : List ℕ) (T : IsSource R t) (x s : List ℕ) (X : Bytes x) (S : Bytes s) (y : Lanes)
+    (same : (p i : ℕ) → p < 32 → i < 1320 → lanesOf x p i ≡ y p i) where
+  -- the 33 blocks that come out
+  out-byte : (p b c : ℕ) → p < 32 → b < 33 → c < 5 → blockByte x s p (source R b) c ≡ number 8 (λ k. woven R s y p (40 * b + (8 * c + k)))
+  unfolding woven source outFrom
+  out-byte p b c hp hb hc = by-bits (blockByte x s p (source R b) c) _ (block-lt x s X S p (source R b) c) bit
+    where
+      r : ℕ
+      r = b % 3
+
+      n : ℕ
+      n = b / 3
+
+      d : ℕ
+      d = R .depth r
+
+      from : Bool → ℕ
+      from g = cond g (33 + (R .start r + (d - suc n))) (3 * (n - d) + r)
+
+      goal : Bool → ℕ → ℕ
+      goal g m = cond g (stored s p (40 * (R .start r + (d - suc n)) + m)) (y p (40 * (3 * (n - d) + r) + m))
+
+      moved : (g : Bool) (k : ℕ) → k < 8 → bitOf 8 (blockByte x s p (from g) c) k ≡ goal g (8 * c + k)
+      moved true k h = kept-bit x s p (R .start r + (d - suc n)) c k h
+      moved false k h =
+          let l : 3 * (n - d) + r < 33 = omega arith in
+          out-bit x s p (3 * (n - d) + r) c k l h ∙ same p (40 * (3 * (n - d) + r) + (8 * c + k)) hp (omega arith)
+
+      bit : (k : ℕ) → k < 8 → bitOf 8 (blockByte x s p (source R b) c) k ≡ woven R s y p (40 * b + (8 * c + k))
+      bit k h =
+          let m : ℕ = 8 * c + k in
+          let e : (40 * b + m) / 40 ≡ b = omega arith in
+          let f : (40 * b + m) % 40 ≡ m = omega arith in
+          rw (lt-ltb b 33 hb, e, f) (moved (ltb n d) k h)
+
+  -- the 18 that are kept
+  kept-byte : (p j c : ℕ) → p < 32 → j < 18 → c < 5 → blockByte x s p (source R (33 + j)) c ≡ number 8 (λ k. storeBit R s y p (40 * j + (8 * c + k)))
+  unfolding storeBit source keptFrom
+  kept-byte p j c hp hj hc = by-bits (blockByte x s p (source R (33 + j)) c) _ (block-lt x s X S p (source R (33 + j)) c) bit
+    where
+      r : ℕ
+      r = rowAt R j
+
+      q : ℕ
+      q = j - R .start r
+
+      row-lt : r < 3
+      row-lt = go (ltb j (R .start 1)) (ltb j (R .start 1 + R .depth 1))
+        where
+          go : (a b : Bool) → cond a 0 (cond b 1 2) < 3
+          go true b = lit< tt
+          go false true = lit< tt
+          go false false = lit< tt
+
+      from : Bool → ℕ
+      from g = cond g (3 * (11 - suc q) + r) (33 + (R .start r + (q - 11)))
+
+      goal : Bool → ℕ → ℕ
+      goal g m = cond g (y p (40 * (3 * (11 - suc q) + r) + m)) (stored s p (40 * (R .start r + (q - 11)) + m))
+
+      moved : (g : Bool) (k : ℕ) → k < 8 → bitOf 8 (blockByte x s p (from g) c) k ≡ goal g (8 * c + k)
+      moved true k h =
+          let l : 3 * (11 - suc q) + r < 33 = omega (arith, row-lt) in
+          out-bit x s p (3 * (11 - suc q) + r) c k l h ∙ same p (40 * (3 * (11 - suc q) + r) + (8 * c + k)) hp (omega arith)
+      moved false k h = kept-bit x s p (R .start r + (q - 11)) c k h
+
+      bit : (k : ℕ) → k < 8 → bitOf 8 (blockByte x s p (source R (33 + j)) c) k ≡ storeBit R s y p (40 * j + (8 * c + k))
+      bit k h =
+          let m : ℕ = 8 * c + k in
+          let e : (40 * j + m) / 40 ≡ j = omega arith in
+          let f : (40 * j + m) % 40 ≡ m = omega arith in
+          let l : 33 ≤ 33 + j = omega arith in
+          let d : 33 + j - 33 ≡ j = omega arith in
+          rw (le-ltb (33 + j) 33 l, d, e, f) (moved (ltb q 11) k h)
+
+  pub out-is : tabulate 5280 (λ i. blockByte x s (i / 165) (getD t (i % 165 / 5) 0) (i % 5)) ≡ frameOf (woven R s y)
+  unfolding frameOf bytes
+  out-is =
+      tabulate-cong 5280 _ _
+      (λ i h.
+      ap (λ (b : ℕ). blockByte x s (i / 165) b (i % 5)) (T .entry (i % 165 / 5) (omega arith))
+      ∙ out-byte (i / 165) (i % 165 / 5) (i % 5) (omega arith) (omega arith) (omega arith)
+      ∙ sym (lane-byte 165 five-165 (lit< tt) (woven R s y) i))
+
+  pub kept-is : tabulate 2880 (λ i. blockByte x s (i / 90) (getD t (33 + i % 90 / 5) 0) (i % 5)) ≡ storeNext R s y
+  unfolding storeNext bytes
+  kept-is =
+      tabulate-cong 2880 _ _
+      (λ i h.
+      ap (λ (b : ℕ). blockByte x s (i / 90) b (i % 5)) (T .entry (33 + i % 90 / 5) (omega arith))
+      ∙ kept-byte (i / 90) (i % 90 / 5) (i % 5) (omega arith) (omega arith) (omega arith)
+      ∙ sym (lane-byte 90 five-90 (lit< tt) (storeBit R s y) i))
+
+-- ---- frames by their bits
+
+-- a frame of given bits has them
+module _ (y : Lanes) (bit : (p i : ℕ) → y p i < 2) where
+  pub frame-bit : (p i : ℕ) → p < 32 → i < 1320 → lanesOf (frameOf y) p i ≡ y p i
+  unfolding frameOf
+  frame-bit p i hp hi =
+      let e : (1320 * p + i) / 1320 ≡ p = omega arith in
+      let f : (1320 * p + i) % 1320 ≡ i = omega arith in
+      bytes-bit 5280 (λ j. y (j / 1320) (j % 1320)) (λ j h. bit (j / 1320) (j % 1320)) (1320 * p + i) (omega arith) ∙ ap₂ y e f
+
+  pub frame-bytes : Bytes (frameOf y)
+  unfolding frameOf
+  frame-bytes = bytes-bytes 5280 (λ j. y (j / 1320) (j % 1320)) (λ j h. bit (j / 1320) (j % 1320))
+
+pub permuted-lt : (ex : Places) (y : Lanes) → ((p i : ℕ) → y p i < 2) → (p i : ℕ) → permuted ex y p i < 2
+unfolding permuted
+permuted-lt ex y bit p i = go (ex (i / 10 % 4))
+  where
+    go : (g : Bool) → cond g (y (partner p) i) (y p i) < 2
+    go true = bit (partner p) i
+    go false = bit p i
+
+pub woven-lt : (R : Rows) (s : List ℕ) (y : Lanes) → ((p i : ℕ) → y p i < 2) → (p i : ℕ) → woven R s y p i < 2
+unfolding woven
+woven-lt R s y bit p i = go (ltb n d)
+  where
+    r : ℕ
+    r = i / 40 % 3
+
+    n : ℕ
+    n = i / 40 / 3
+
+    d : ℕ
+    d = R .depth r
+
+    go : (g : Bool) → cond g (stored s p (40 * (R .start r + (d - suc n)) + i % 40)) (y p (40 * (3 * (n - d) + r) + i % 40)) < 2
+    go true = bitAt-lt s (720 * p + (40 * (R .start r + (d - suc n)) + i % 40))
+    go false = bit p (40 * (3 * (n - d) + r) + i % 40)
+
+pub lanes-lt : (a : List ℕ) (p i : ℕ) → lanesOf a p i < 2
+lanes-lt a p i = bitAt-lt a (1320 * p + i)
+
+-- the permutation hangs on a frame's bits alone, and on the four places that a number names
+pub permuted-cong : (ex ex′ : Places) (x y : Lanes) → ((s : ℕ) → s < 4 → ex s ≡ ex′ s) → ((p i : ℕ) → p < 32 → i < 1320 → x p i ≡ y p i)
+    → frameOf (permuted ex x) ≡ frameOf (permuted ex′ y)
+unfolding frameOf permuted
+permuted-cong ex ex′ x y places same =
+    bytes-cong 5280 _ _
+    (λ j h. λ z. cond (places (j % 1320 / 10 % 4) (omega arith) z) (same (partner (j / 1320)) (j % 1320) (omega arith) (omega arith) z)
+    (same (j / 1320) (j % 1320) (omega arith) (omega arith) z))
+
+pub named-16 : (x s : ℕ) → s < 4 → named (x % 16) s ≡ named x s
+unfolding named
+named-16 x s h = ap (λ (b : ℕ). eqb b 1) (go s h)
+  where
+    go : (s : ℕ) → s < 4 → x % 16 / 2 ^ s % 2 ≡ x / 2 ^ s % 2
+    go zero h = omega arith
+    go (suc zero) h = omega arith
+    go (suc (suc zero)) h = omega arith
+    go (suc (suc (suc zero))) h = omega arith
+    go (suc (suc (suc (suc s)))) h = absurd (omega arith)
+
+-- ---- the loop that stores a block a turn
+
+pub block-turn : (g : ℕ → ℕ) {n : ℕ} {out₀ out : List ℕ} (b v0 v1 v2 v3 v4 : ℕ) → Filling g n out₀ out (5 * b) → 5 * b + 5 ≤ n
+    → v0 ≡ g (5 * b) → v1 ≡ g (5 * b + 1) → v2 ≡ g (5 * b + 2) → v3 ≡ g (5 * b + 3) → v4 ≡ g (5 * b + 4)
+    → Filling g n out₀ (set (set (set (set (set out (5 * b) v0) (5 * b + 1) v1) (5 * b + 2) v2) (5 * b + 3) v3) (5 * b + 4) v4) (5 * (b + 1))
+block-turn g {n} {out₀} b v0 v1 v2 v3 v4 F h e0 e1 e2 e3 e4 =
+    let F0 = filling-turn g v0 F (omega arith) e0 in
+    let F1 = filling-at g (5 * b + 1) v1 (omega arith) F0 (omega arith) e1 in
+    let F2 = filling-at g (5 * b + 2) v2 (omega arith) F1 (omega arith) e2 in
+    let F3 = filling-at g (5 * b + 3) v3 (omega arith) F2 (omega arith) e3 in
+    let F4 = filling-at g (5 * b + 4) v4 (omega arith) F3 (omega arith) e4 in
+    let next : 5 * b + 4 + 1 ≡ 5 * (b + 1) = omega arith in
+    subst (Filling g n out₀ _) next F4
+
+-- byte c of the block that entry b leads to is byte 5 b + c
+pub block-at : (x s t : List ℕ) (p first b c i : ℕ) {v : ℕ} → c < 5 → i ≡ 5 * b + c → v ≡ blockByte x s p (getD t (first + b) 0) c
+    → v ≡ blockByte x s p (getD t (first + i / 5) 0) (i % 5)
+block-at x s t p first b c i h e q =
+    let d : b ≡ i / 5 = omega arith in
+    let r : c ≡ i % 5 = omega arith in
+    q ∙ (λ z. blockByte x s p (getD t (first + d z) 0) (r z))
+
+-- the same blocks counted over the lanes: byte k of lane p of L bytes
+pub lane-block : (x s t : List ℕ) (L first p k : ℕ) → ((i : ℕ) → i % L % 5 ≡ i % 5) → k < L
+    → blockByte x s p (getD t (first + k / 5) 0) (k % 5) ≡ blockByte x s ((L * p + k) / L) (getD t (first + (L * p + k) % L / 5) 0) ((L * p + k) % 5)
+lane-block x s t L first p k five h =
+    let e : p * L + k ≡ L * p + k = ap (λ (x : ℕ). x + k) (mul-comm p L) in
+    let d : p ≡ (L * p + k) / L = sym (digits-div p h) ∙ ap (λ (x : ℕ). x / L) e in
+    let r : k ≡ (L * p + k) % L = sym (digits-mod p h) ∙ ap (λ (x : ℕ). x % L) e in
+    let c : k % 5 ≡ (L * p + k) % 5 = ap (λ (x : ℕ). x % 5) r ∙ five (L * p + k) in
+    λ z. blockByte x s (d z) (getD t (first + r z / 5) 0) (c z)
+
+-- a turn that lends lane p's part of L bytes
+pub lane-turn : (f : ℕ → ℕ) {n : ℕ} {out₀ out : List ℕ} (L p e : ℕ) (part : List ℕ) (w : ℕ → ℕ) → Filling f n out₀ out (L * p) → e ≡ L * p + L → e ≤ n
+    → part ≡ tabulate (length (take (e - L * p) (drop (L * p) out))) w → ((k : ℕ) → k < L → w k ≡ f (L * p + k))
+    → Filling f n out₀ (take (L * p) out ++ (part ++ drop (e - L * p) (drop (L * p) out))) (L * (p + 1))
+lane-turn f {n} {out₀} L p e part w F q le is agree =
+    let next : e ≡ L * (p + 1) = q ∙ sym (rw (add-one, mul-suc)) in
+    subst (Filling f n out₀ _) next (filling-put f e part (λ m. w) F (omega arith) le is (λ k h. agree k (omega arith)))

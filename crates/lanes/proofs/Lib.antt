@@ -1,0 +1,6 @@
+pub mod Entries
+pub mod Bytewise
+pub mod Frames
+pub mod Rows
+pub mod Stream
+pub mod Determined

@@ -1,0 +1,50 @@
+-- `lanes::stages::weave` meets its contract: `weave-law`. Assumes nothing.
+use mathlib.Core.Path.{_≡_, _∙_}
+use lib.ListN.{length}
+use Rattle.bits.proofs.Filling.{copied-all}
+use Rattle.lanes.proofs.Entries.{sends-below, is-masks}
+use Rattle.lanes.proofs.Frames.{weave-law}
+use borrow.Author.Needs.{needs}
+use Rattle.lanes.proofs.stages.weave.Statement.{statement}
+use Rattle.lanes.proofs.stages.weave.Tie as tie
+
+slice-aggregate-permute : tie.Need-slice-aggregate-permute
+slice-aggregate-permute c = search needs
+
+permute-requires : tie.Need-permute-requires
+permute-requires c κs = (is-masks, search needs)
+
+slice-aggregate-copy : tie.Need-slice-aggregate-copy
+slice-aggregate-copy c = search needs
+
+copy-requires : tie.Need-copy-requires
+copy-requires c κs = search needs
+
+slice-aggregate-move-lanes : tie.Need-slice-aggregate-move-lanes
+slice-aggregate-move-lanes c = search needs
+
+slice-aggregate-move-lanes-2 : tie.Need-slice-aggregate-move-lanes-2
+slice-aggregate-move-lanes-2 c = search needs
+
+move-lanes-requires : tie.Need-move-lanes-requires
+move-lanes-requires c κs = (sends-below, search needs)
+
+returns : tie.Need-returns
+returns c =
+    let m = c .move-lanes .ensures in
+    let a = c .before .before .before .before .before .before .before .before .before .before .before .before .before .before .before .before .args in
+    let long : length (a .store .now) ≡ 2880 = c .before .before .before .before .before .before .before .before .before .copy-arg2 .given .0 in
+    weave-law (a .exchanged) (a .lanes .now) (a .store .now) (c .before .before .before .before .before .before .before .before .before .before .before .before .permute .ensures) (c .before .before .before .before .before .before .before .copy .ensures ∙ copied-all _ _ long) (m .1 .1 .0) (m .1 .1 .1) (m .0) (m .1 .0)
+
+pub weave-spec : {M : Type 1} → statement M
+weave-spec =
+    tie.close
+    (tie.spec
+    slice-aggregate-permute
+    permute-requires
+    slice-aggregate-copy
+    copy-requires
+    slice-aggregate-move-lanes
+    slice-aggregate-move-lanes-2
+    move-lanes-requires
+    returns)

@@ -1,0 +1,4 @@
+pub mod Permutation
+pub mod Interleaver
+pub mod Blocks
+pub mod Stream

@@ -1,0 +1,3 @@
+// 32 lanes of blocks: permutation, interleaver and its stores.
+pub mod stages;
+mod tables;
