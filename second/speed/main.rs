@@ -1,6 +1,9 @@
-//! The proved word code beside this program's, in one run: first both decode the same frames, then each is timed.
+//! The proved word code and sending beside this program's, in one run: first both make the same calls, then each is timed.
 //! Linked against the archive that `run` builds.
 
+use second::lanes::{interleave, permute, words, EXCHANGED, LANES_BYTES, STORE_BYTES};
+use second::send::send_with;
+use second::symbols::{frame as frame_of, FRAME_SYMBOLS};
 use second::word::{encode, join, only_bit, split, Decoder};
 use second::xorshift::Xorshift;
 use std::hint::black_box;
@@ -9,7 +12,17 @@ use std::time::Instant;
 extern "C" {
     fn proved_encode_frame(words: *mut [u64; 768]);
     fn proved_decode_frame(words: *mut [u64; 768], flags: *mut [u8; 384]);
+    fn proved_weave(lanes: *const Lanes, store: *mut Store, out: *mut Lanes);
+    fn proved_to_words(lanes: *const Lanes, words: *mut Words);
+    fn proved_frame_from_words(words: *const Words, frame: *mut Frame);
+    fn proved_send(
+        input: *const u8, input_length: usize, store: *mut u8, store_length: usize, output: *mut u8, output_length: usize,
+    ) -> u32;
 }
+
+type Lanes = [u8; LANES_BYTES];
+type Store = [u8; STORE_BYTES];
+type Frame = [u8; FRAME_SYMBOLS];
 
 type Words = [u64; 768];
 
@@ -64,6 +77,106 @@ fn time(frames: &[Words], mut call: impl FnMut(&mut Words, &mut [u8; 384])) -> f
     best / frames.len() as f64 / 384.0
 }
 
+/// The best of many passes over a run of 1,000 sends, or of one stage of them, in microseconds a frame.
+fn time_run(mut call: impl FnMut(usize)) -> f64 {
+    let mut best = f64::MAX;
+    for _ in 0..10 {
+        let start = Instant::now();
+        for k in 0..1000 {
+            call(k);
+        }
+        best = best.min(start.elapsed().as_nanos() as f64);
+    }
+    best / 1000.0 / 1000.0
+}
+
+fn row(name: &str, proved: f64, plain: f64) {
+    println!("{name:24} {proved:9.2} {plain:14.2}");
+}
+
+/// A run of 1,000 sends from a fresh store: compared, then timed, whole and by stages.
+fn sending() {
+    let mut random = Xorshift::new(802);
+    let inputs: Vec<Lanes> = (0..16)
+        .map(|_| {
+            let mut lanes = [0; LANES_BYTES];
+            lanes.fill_with(|| random.next_u64() as u8);
+            lanes
+        })
+        .collect();
+    let proved = |input: &Lanes, store: &mut Store, output: &mut Frame| unsafe {
+        proved_send(input.as_ptr(), input.len(), store.as_mut_ptr(), store.len(), output.as_mut_ptr(), output.len())
+    };
+
+    let (mut s, mut t) = ([0; STORE_BYTES], [0; STORE_BYTES]);
+    let (mut f, mut g) = ([0; FRAME_SYMBOLS], [0; FRAME_SYMBOLS]);
+    for k in 0..1000 {
+        let input = &inputs[k % 16];
+        assert!(proved(input, &mut s, &mut f) == 0 && send_with(true, input, &mut t, &mut g) == 0, "refused");
+        assert!(s == t && f == g, "frames or stores differ");
+    }
+    println!("a run of 1,000 sends: the same frames and stores");
+
+    println!("microseconds a frame        proved   this program");
+    let whole = time_run(|k| {
+        proved(&inputs[k % 16], &mut s, &mut f);
+        black_box((&mut s, &mut f));
+    });
+    let plain = time_run(|k| {
+        send_with(true, &inputs[k % 16], &mut t, &mut g);
+        black_box((&mut t, &mut g));
+    });
+    row("send, parity bit by bit", whole, plain);
+
+    let mut woven = [0; LANES_BYTES];
+    let mine = time_run(|k| {
+        unsafe { proved_weave(&inputs[k % 16], &mut s, &mut woven) };
+        black_box((&mut s, &mut woven));
+    });
+    let plain = time_run(|k| {
+        let mut lanes = inputs[k % 16];
+        permute(&mut lanes, EXCHANGED);
+        interleave(&lanes, &mut t, &mut woven);
+        black_box((&mut t, &mut woven));
+    });
+    row("permute and weave", mine, plain);
+
+    let mut row_of = [0; 768];
+    let mine = time_run(|k| {
+        unsafe { proved_to_words(&inputs[k % 16], &mut row_of) };
+        black_box(&mut row_of);
+    });
+    let plain = time_run(|k| {
+        black_box(&mut words(&inputs[k % 16]));
+    });
+    row("lanes to words", mine, plain);
+
+    let rows: Vec<Words> = inputs.iter().map(words).collect();
+    let mine = time_run(|k| {
+        let mut w = rows[k % 16];
+        unsafe { proved_encode_frame(&mut w) };
+        black_box(&mut w);
+    });
+    let plain = time_run(|k| {
+        let mut w = rows[k % 16];
+        for word in w.chunks_exact_mut(2) {
+            (word[0], word[1]) = encode(word[0], word[1]);
+        }
+        black_box(&mut w);
+    });
+    row("parity, bit by bit", mine, plain);
+
+    let mine = time_run(|k| {
+        unsafe { proved_frame_from_words(&rows[k % 16], &mut f) };
+        black_box(&mut f);
+    });
+    let plain = time_run(|k| {
+        frame_of(&rows[k % 16], &mut g);
+        black_box(&mut g);
+    });
+    row("shuffle, map and pilots", mine, plain);
+}
+
 fn main() {
     compare(2000);
     let decoder = Decoder::new();
@@ -86,4 +199,5 @@ fn main() {
     });
     let table = time(&frames, |w, _| second::word::encode_frame(w));
     println!("{:24} {proved:9.1} {bits:14.1}   (by table {table:.1})", "encode, bit by bit");
+    sending();
 }

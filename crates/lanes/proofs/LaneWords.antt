@@ -122,7 +122,7 @@ word-last hi lo a l h =
 -- ---- the lanes of a frame's words
 
 -- an information bit of a word
-bit-information : (w q : ℕ) → q < 110 → bitOf 126 w q ≡ bitOf 110 (w / 2 ^ 16) q
+pub bit-information : (w q : ℕ) → q < 110 → bitOf 126 w q ≡ bitOf 110 (w / 2 ^ 16) q
 unfolding bitOf
 bit-information w q h =
     let e : 126 - 1 - q ≡ 16 + (110 - 1 - q) = omega arith in
@@ -173,30 +173,36 @@ module _ (s : List ℕ) where
 
 -- ---- each way undoes the other
 
-information-lt : (a : List ℕ) (i : ℕ) → informationAt a i * 2 ^ 16 < 2 ^ 126
+pub information-lt : (a : List ℕ) (i : ℕ) → informationAt a i < 2 ^ 110
 unfolding informationAt
-information-lt a i = shl-lt 110 16 (field-lt a (1320 * (i % 32) + 110 * (i / 32)) 110)
+information-lt a i = field-lt a (1320 * (i % 32) + 110 * (i / 32)) 110
+
+-- bit q of word k of lane p
+pub information-bit : (a : List ℕ) (k p q : ℕ) → p < 32 → q < 110 → bitOf 110 (informationAt a (32 * k + p)) q ≡ bitAt a (1320 * p + 110 * k + q)
+unfolding informationAt
+information-bit a k p q hp hq =
+    let lane : (32 * k + p) % 32 ≡ p = omega arith in
+    let number : (32 * k + p) / 32 ≡ k = omega arith in
+    field-bit a (1320 * ((32 * k + p) % 32) + 110 * ((32 * k + p) / 32)) 110 q hq ∙ ap₂ (λ (x y : ℕ). bitAt a (1320 * x + 110 * y + q)) lane number
+
+-- a word of the lanes has their information
+pub word-information : (a : List ℕ) (i : ℕ) → i < 384 → wordAt (laneWords a) i / 2 ^ 16 ≡ informationAt a i
+unfolding laneWords
+word-information a i h =
+    ap (λ (w : ℕ). w / 2 ^ 16) (row-at 384 (λ i. informationAt a i * 2 ^ 16) i h (shl-lt 110 16 (information-lt a i)))
+    ∙ shl-shr (informationAt a i) 16
 
 -- bit j of the lanes, by the word that holds it
 word-bit : (a : List ℕ) (j : ℕ) → j < 8 * 5280 → bitAt a j ≡ bitOf 126 (wordAt (laneWords a) (32 * (j % 1320 / 110) + j / 1320)) (j % 1320 % 110)
-unfolding informationAt laneWords
 word-bit a j h =
     let p = j / 1320 in
     let k = j % 1320 / 110 in
     let q = j % 1320 % 110 in
-    let i = 32 * k + p in
     let parts : 1320 * p + 110 * k + q ≡ j = omega arith in
-    let whole : 1320 * (i % 32) + 110 * (i / 32) + q ≡ j = ap₂ (λ (x y : ℕ). 1320 * x + 110 * y + q) (lane-of k p (omega arith)) (number-of k p (omega arith)) ∙ parts in
     sym
-    (ap (λ (w : ℕ). bitOf 126 w q) (row-at 384 (λ i. informationAt a i * 2 ^ 16) i (omega arith) (information-lt a i))
-    ∙ bit-information (informationAt a i * 2 ^ 16) q (omega arith) ∙ ap (λ (v : ℕ). bitOf 110 v q) (shl-shr (informationAt a i) 16)
-    ∙ field-bit a (1320 * (i % 32) + 110 * (i / 32)) 110 q (omega arith) ∙ ap (bitAt a) whole)
-  where
-    lane-of : (k p : ℕ) → p < 32 → (32 * k + p) % 32 ≡ p
-    lane-of k p l = omega arith
-
-    number-of : (k p : ℕ) → p < 32 → (32 * k + p) / 32 ≡ k
-    number-of k p l = omega arith
+    (bit-information (wordAt (laneWords a) (32 * k + p)) q (omega arith)
+    ∙ ap (λ (v : ℕ). bitOf 110 v q) (word-information a (32 * k + p) (omega arith))
+    ∙ information-bit a k p q (omega arith) (omega arith) ∙ ap (bitAt a) parts)
 
 -- the lanes hang on the words' information alone
 pub lanes-information : (s t : List ℕ) → ((i : ℕ) → i < 384 → wordAt s i / 2 ^ 16 ≡ wordAt t i / 2 ^ 16) → wordLanes s ≡ wordLanes t

@@ -41,7 +41,7 @@ store-lt R s x bit p i = go (ltb q 11)
     go false = bitAt-lt s (720 * p + (40 * (R .start r + (q - 11)) + i % 40))
 
 -- the bits of the store that is kept
-stored-bit : (R : Rows) (s : List ℕ) (x : Lanes) → ((p i : ℕ) → x p i < 2) → (p i : ℕ) → p < 32 → i < 720 → stored (storeNext R s x) p i ≡ storeBit R s x p i
+pub stored-bit : (R : Rows) (s : List ℕ) (x : Lanes) → ((p i : ℕ) → x p i < 2) → (p i : ℕ) → p < 32 → i < 720 → stored (storeNext R s x) p i ≡ storeBit R s x p i
 unfolding storeNext
 stored-bit R s x bit p i hp hi =
     let e : (720 * p + i) / 720 ≡ p = omega arith in

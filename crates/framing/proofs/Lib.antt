@@ -1,0 +1,5 @@
+pub mod Sending
+pub mod Stream
+pub mod Bench
+pub mod Determined
+pub mod Empty

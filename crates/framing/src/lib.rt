@@ -1,0 +1,55 @@
+// One call: a frame sent.
+ghost use mathlib.Core.Path.{_≡_};
+ghost use lib.ListN.{length};
+ghost use Rattle.lanes.specs.Permutation.{named};
+ghost use Rattle.lanes.specs.Interleaver.{wovenStore};
+ghost use Rattle.framing.specs.Send.{base, sentFrame, Sends};
+
+// The exchanged places of the base: 2 and 3.
+const EXCHANGED: u64 = 12;
+
+// A frame of lanes through every stage; the store becomes what is kept.
+fn send_frame(lanes: &[u8; 5280], store: &mut [u8; 2880], frame: &mut [u8; 6144])
+    ensures { λ _. ⌜ now (frame .exit) ≡ sentFrame base (now (lanes .entry)) (now (store .entry)) ⌝ }
+    ensures { λ _. ⌜ now (store .exit) ≡ wovenStore base (now (lanes .entry)) (now (store .entry)) ⌝ }
+{
+    let mut woven = [0u8; 5280];
+    lanes::stages::weave(EXCHANGED, lanes, store, &mut woven);
+    let mut words = [0u64; 768];
+    lanes::words::to_words(&woven, &mut words);
+    bch::encode_frame(&mut words);
+    symbols::frame_from_words(&words, frame);
+}
+
+// The same over slices of the right lengths.
+fn send_slices(input: &[u8], store: &mut [u8], output: &mut [u8])
+    requires { ⌜ (length (now input) ≡ 5280) × (length (now store) ≡ 2880) × (length (now output) ≡ 6144) ⌝ }
+    ensures { λ _. ⌜ now (output .exit) ≡ sentFrame base (now (input .entry)) (now (store .entry)) ⌝ }
+    ensures { λ _. ⌜ now (store .exit) ≡ wovenStore base (now (input .entry)) (now (store .entry)) ⌝ }
+{
+    let mut lanes = [0u8; 5280];
+    bits::copy(input, &mut lanes);
+    let mut kept = [0u8; 2880];
+    bits::copy(store, &mut kept);
+    let mut frame = [0u8; 6144];
+    send_frame(&lanes, &mut kept, &mut frame);
+    bits::copy(&kept, store);
+    bits::copy(&frame, output);
+}
+
+// A frame sent: 5,280 bytes of lanes in, 6,144 symbols out, and the store kept. A wrong length is refused by its number and changes nothing.
+pub fn send(input: &[u8], store: &mut [u8], output: &mut [u8]) -> u32
+    ensures { λ r. ⌜ Sends base (now (input .entry)) (now (store .entry)) (now (output .entry)) r (now (store .exit)) (now (output .exit)) ⌝ }
+{
+    if input.len() != 5280 {
+        return 1;
+    }
+    if store.len() != 2880 {
+        return 2;
+    }
+    if output.len() != 6144 {
+        return 3;
+    }
+    send_slices(input, store, output);
+    0
+}

@@ -1,0 +1,319 @@
+-- From symbols to words: four lanes' numbers gathered pair by pair, eight symbols at a time, and the words of a frame with their bits at their places.
+-- Assumes nothing.
+use mathlib.Core.Path.{_≡_, refl, sym, ap, ap₂, _∙_, subst}
+use mathlib.Core.Bool.{cond}
+use mathlib.Core.List.{List}
+use Prim.Native.Nat.{ℕ, zero, suc, _+_, _-_, _*_, _/_, _%_, _^_, _<_, _≤_, suc-le-suc, zero-le}
+use native.Mathlib.Nat.{add-assoc, lt-of-lt-of-le, pow-le-pow-right, mul-add-mod-self-right, add-mul-mod-self-right, mod-eq-of-lt}
+use native.Mathlib.Decide.{decLt}
+use native.Mathlib.Numerals.{add-one}
+use native.Mathlib.Omega.{arith}
+use lib.Dec.{eqb, ltb}
+use lib.ListN.{getD, set, drop}
+use lib.Seq.{getD-drop, drop-drop}
+use borrow.Author.Tests.{lt-ltb, le-ltb}
+use Rattle.bits.specs.Bits.{value, number, bitOf, bitAt}
+use Rattle.bits.specs.Words.{halfOf, rowOf}
+use Rattle.bits.proofs.Value.{value-more, value-cong, value-lt, value-append, value-top, value-low, bit-lt, bit-number}
+use Rattle.bits.proofs.Fields.{bitAt-lt, bitAt-byte}
+use Rattle.bits.proofs.Filling.{Filling}
+use Rattle.bits.proofs.Tabulate.{tabulate-cong}
+use Rattle.bits.proofs.Words.{row-at, row-turn}
+use Rattle.symbols.specs.declared.Quad.{Quad}
+use Rattle.symbols.specs.Mapping.{place, payloadAt, symbolOf, tributaryOf, bitIn}
+use Rattle.symbols.specs.Frame.{placedBit, arrived, wordsOf}
+use Rattle.symbols.specs.Tables.{back, turned, turnedRow, tributaryIn, pairOf, spreadOf, IsSpread, gathered, quadOf, fieldsOf, Room, joined, masked, placedWord, placedRow}
+
+-- ---- a symbol's pairs, by the table
+
+pair-lt : (l r x : ℕ) → pairOf l r x < 4
+unfolding pairOf
+pair-lt l r x = omega (arith, bit-lt 8 x (2 * tributaryIn l r + l % 2), bit-lt 8 x (2 * tributaryIn l r + (l + 1) % 2))
+
+tributary-lt : (l r : ℕ) → tributaryIn l r < 4
+unfolding tributaryIn
+tributary-lt l r = omega arith
+
+tributary-mod : (l r : ℕ) → tributaryIn (l % 4) r ≡ tributaryIn l r
+unfolding tributaryIn
+tributary-mod l r =
+    let p : l / 2 % 2 ≡ l % 4 / 2 % 2 = omega arith in
+    let e : r + 3 * (2 * l + l / 2 % 2) ≡ r + 3 * (2 * (l % 4) + l % 4 / 2 % 2) + 6 * (l / 4) * 4 = omega arith in
+    sym (ap (λ (n : ℕ). n % 4) e ∙ add-mul-mod-self-right (r + 3 * (2 * (l % 4) + l % 4 / 2 % 2)) (6 * (l / 4)) 4)
+
+pair-mod : (l r x : ℕ) → pairOf (l % 4) r x ≡ pairOf l r x
+unfolding pairOf
+pair-mod l r x =
+    let e : l % 4 % 2 ≡ l % 2 = omega arith in
+    let d : (l % 4 + 1) % 2 ≡ (l + 1) % 2 = omega arith in
+    λ k. bitOf 8 x (2 * tributary-mod l r k + e k) * 2 + bitOf 8 x (2 * tributary-mod l r k + d k)
+
+pub spread-at : (t : List ℕ) (l x : ℕ) → IsSpread t → x < 256 → getD t (256 * (l % 4) + x) 0 ≡ spreadOf l x
+unfolding spreadOf
+spread-at t l x S h =
+    S .entry (l % 4) x (omega arith) h
+    ∙ λ k. pair-mod l 0 x k * 2 ^ 48 + pair-mod l 1 x k * 2 ^ 32 + pair-mod l 2 x k * 2 ^ 16 + pair-mod l 3 x k
+
+-- ---- a lane's number in the symbols s, of which the first is number l
+
+module _ (l : ℕ) (s : List ℕ) (r : ℕ) where
+  gathered-none : gathered 0 l s r ≡ 0
+  unfolding gathered value
+  gathered-none = refl
+
+  gathered-more : (n : ℕ) → gathered (n + 1) l s r ≡ gathered n l s r * 4 + pairOf (l + n) r (getD s n 0)
+  unfolding gathered
+  gathered-more n = value-more 4 n _
+
+  gathered-lt : (n : ℕ) → gathered n l s r < 4 ^ n
+  unfolding gathered
+  gathered-lt n = value-lt 4 n _ (λ i _. pair-lt (l + i) r (getD s i 0))
+
+  -- of at most k symbols
+  gathered-le : (n k : ℕ) → n ≤ k → gathered n l s r < 4 ^ k
+  gathered-le n k h = lt-of-lt-of-le (gathered-lt n) (pow-le-pow-right {n = 4} (suc-le-suc zero-le) h)
+
+  gathered-append : (n m : ℕ) → gathered (n + m) l s r ≡ gathered n l s r * 4 ^ m + gathered m (l + n) (drop n s) r
+  unfolding gathered
+  gathered-append n m =
+      value-append 4 n m _
+      ∙ ap (λ (v : ℕ). gathered n l s r * 4 ^ m + v) (value-cong 4 m _ _ (λ i _ k. pairOf (sym (add-assoc l n i) k) r (sym (getD-drop n s i 0) k)))
+
+-- ---- four numbers of at most 8 pairs in four fields
+
+module _ (s : List ℕ) (at l : ℕ) where
+  pub fields-none : 0 ≡ fieldsOf 0 l (drop at s)
+  unfolding fieldsOf
+  fields-none = let g = gathered-none l (drop at s) in omega (arith, g 0, g 1, g 2, g 3)
+
+  pub fields-turn : (j v x : ℕ) → v ≡ fieldsOf j l (drop at s) → x ≡ spreadOf (l + j) (getD s (at + j) 0) → v * 4 + x ≡ fieldsOf (j + 1) l (drop at s)
+  unfolding fieldsOf spreadOf
+  fields-turn j v x e p =
+      let g : (r : ℕ) → gathered (j + 1) l (drop at s) r ≡ gathered j l (drop at s) r * 4 + pairOf (l + j) r (getD (drop at s) j 0) = λ r. gathered-more l (drop at s) r j in
+      let p′ = p ∙ ap (spreadOf (l + j)) (sym (getD-drop at s j 0)) in
+      omega (arith, g 0, g 1, g 2, g 3, p′)
+
+  -- room for one more pair in each field
+  pub fields-room : (j v : ℕ) → j < 8 → v ≡ fieldsOf j l (drop at s) → v < 2 ^ 62
+  unfolding fieldsOf
+  fields-room j v h e =
+      let room : (r : ℕ) → gathered j l (drop at s) r < 2 ^ 14 = λ r. gathered-le l (drop at s) r j 7 (omega arith) in
+      omega (arith, room 0, room 1, room 2, room 3)
+
+  pub fields-lt : (j v : ℕ) → j ≤ 8 → v ≡ fieldsOf j l (drop at s) → v < 2 ^ 64
+  unfolding fieldsOf
+  fields-lt j v h e =
+      let room : (r : ℕ) → gathered j l (drop at s) r < 2 ^ 16 = λ r. gathered-le l (drop at s) r j 8 h in
+      omega (arith, room 0, room 1, room 2, room 3)
+
+  pub fields-done : (j v : ℕ) → j ≡ 8 → v ≡ fieldsOf j l (drop at s) → v ≡ fieldsOf 8 l (drop at s)
+  fields-done j v e p = p ∙ ap (λ (n : ℕ). fieldsOf n l (drop at s)) e
+
+  -- ---- four numbers of at most 32 pairs
+
+  pub quad-none : record { a = 0; b = 0; c = 0; d = 0 } ≡ quadOf 0 l (drop at s)
+  unfolding quadOf
+  quad-none = let g : (r : ℕ) → 0 ≡ gathered 0 l (drop at s) r = λ r. sym (gathered-none l (drop at s) r) in λ k. record { a = g 0 k; b = g 1 k; c = g 2 k; d = g 3 k }
+
+  pub quad-room : (n : ℕ) (q : Quad) → n ≤ 24 → q ≡ quadOf n l (drop at s) → Room q
+  unfolding quadOf
+  quad-room n q h e =
+      let room : (r : ℕ) → gathered n l (drop at s) r < 2 ^ 48 = λ r. gathered-le l (drop at s) r n 24 h in
+      subst Room (sym e) (record { a = room 0; b = room 1; c = room 2; d = room 3 })
+
+  pub quad-turn : (n : ℕ) (q : Quad) (v : ℕ) (r : Quad) → q ≡ quadOf n l (drop at s) → v ≡ fieldsOf 8 (l + n) (drop (at + n) s) → r ≡ joined q v
+      → r ≡ quadOf (n + 8) l (drop at s)
+  unfolding joined quadOf fieldsOf
+  quad-turn n q v r e p h =
+      let t = drop n (drop at s) in
+      let p′ = p ∙ ap (fieldsOf 8 (l + n)) (sym (drop-drop n at s)) in
+      let small : (i : ℕ) → gathered 8 (l + n) t i < 2 ^ 16 = λ i. gathered-lt (l + n) t i 8 in
+      let s0 = small 0 in
+      let s1 = small 1 in
+      let s2 = small 2 in
+      let s3 = small 3 in
+      let a : v / 2 ^ 48 ≡ gathered 8 (l + n) t 0 = omega arith in
+      let b : v / 2 ^ 32 % 65536 ≡ gathered 8 (l + n) t 1 = omega arith in
+      let c : v / 2 ^ 16 % 65536 ≡ gathered 8 (l + n) t 2 = omega arith in
+      let d : v % 65536 ≡ gathered 8 (l + n) t 3 = omega arith in
+      let more : (i : ℕ) → gathered n l (drop at s) i * 65536 + gathered 8 (l + n) t i ≡ gathered (n + 8) l (drop at s) i = λ i. sym (gathered-append l (drop at s) i n 8) in
+      h ∙ (λ k. record { a = e k .a * 65536 + a k; b = e k .b * 65536 + b k; c = e k .c * 65536 + c k; d = e k .d * 65536 + d k })
+      ∙ λ k. record { a = more 0 k; b = more 1 k; c = more 2 k; d = more 3 k }
+
+  pub quad-done : (n : ℕ) (q : Quad) → n ≡ 32 → q ≡ quadOf n l (drop at s) → q ≡ quadOf 32 l (drop at s)
+  quad-done n q e p = p ∙ ap (λ (m : ℕ). quadOf m l (drop at s)) e
+
+-- ---- the words of a frame
+
+-- pairs of bits, and bits
+pairs-number : (h : ℕ → ℕ) (n : ℕ) → value 4 n (λ i. h (2 * i) * 2 + h (2 * i + 1)) ≡ number (2 * n) h
+unfolding value
+pairs-number h zero = refl
+pairs-number h (suc n) =
+    let e : 2 * suc n ≡ suc (suc (2 * n)) = omega arith in
+    rw (e, pairs-number h n, ← add-one (2 * n)) (omega arith)
+
+module _ (f : List ℕ) (g r : ℕ) (h : g < 96) (b : r < 4) where
+  -- the bits of word 4 g + r at their places
+  bitsOf : ℕ → ℕ
+  bitsOf = placedBit f ((4 * g + r) / 32) ((4 * g + r) % 32)
+
+  bits-lt : (q : ℕ) → bitsOf q < 2
+  unfolding bitsOf placedBit
+  bits-lt q = bitAt-lt f _
+
+  module _ (j e : ℕ) (hj : j < 63) (he : e < 2) where
+    symbol-is : symbolOf ((4 * g + r) % 32) (2 * j + e) ≡ g % 8 * 63 + j
+    unfolding symbolOf
+    symbol-is = omega arith
+
+    payload-is : payloadAt (504 * ((4 * g + r) / 32) + symbolOf ((4 * g + r) % 32) (2 * j + e)) ≡ g * 64 + 1 + j
+    unfolding payloadAt
+    payload-is =
+        let m : 504 * ((4 * g + r) / 32) + symbolOf ((4 * g + r) % 32) (2 * j + e) ≡ 63 * g + j = omega (arith, symbol-is) in
+        rw m (omega arith)
+
+    tributary-is : tributaryOf ((4 * g + r) % 32) (2 * j + e) ≡ tributaryIn (g % 8 * 63 + j) r
+    unfolding tributaryOf tributaryIn
+    tributary-is =
+        let l = g % 8 * 63 + j in
+        let x = 3 * (2 * l + l / 2 % 2) in
+        let m : (4 * g + r) % 32 + x ≡ r + x + g % 8 * 4 = omega arith in
+        ap (λ (l : ℕ). ((4 * g + r) % 32 + 3 * (2 * l + l / 2 % 2)) % 4) symbol-is
+        ∙ ap (λ (n : ℕ). n % 4) m ∙ add-mul-mod-self-right (r + x) (g % 8) 4
+
+    bit-is : bitIn ((4 * g + r) % 32) (2 * j + e) ≡ 2 * tributaryIn (g % 8 * 63 + j) r + (g % 8 * 63 + j + e) % 2
+    unfolding bitIn
+    bit-is =
+        let m : (2 * j + e + symbolOf ((4 * g + r) % 32) (2 * j + e)) % 2 ≡ (g % 8 * 63 + j + e) % 2 = rw symbol-is (omega arith) in
+        ap₂ (λ (t u : ℕ). 2 * t + u) tributary-is m
+
+    placed-at : bitsOf (2 * j + e) ≡ bitOf 8 (getD f (g * 64 + 1 + j) 0) (2 * tributaryIn (g % 8 * 63 + j) r + (g % 8 * 63 + j + e) % 2)
+    unfolding bitsOf placedBit
+    placed-at =
+        ap₂ (λ (p i : ℕ). bitAt f (8 * p + i)) payload-is bit-is
+        ∙ bitAt-byte f (g * 64 + 1 + j) _ (omega (arith, tributary-lt (g % 8 * 63 + j) r))
+
+  -- a symbol's pair is two bits of the word
+  placed-pair : (j : ℕ) → j < 63 → pairOf (g % 8 * 63 + j) r (getD f (g * 64 + 1 + j) 0) ≡ bitsOf (2 * j) * 2 + bitsOf (2 * j + 1)
+  unfolding pairOf
+  placed-pair j hj =
+      let l = g % 8 * 63 + j in
+      let z : 2 * j + 0 ≡ 2 * j = omega arith in
+      let y : l % 2 ≡ (l + 0) % 2 = omega arith in
+      ap₂ (λ (u v : ℕ). u * 2 + v)
+      (ap (λ (k : ℕ). bitOf 8 (getD f (g * 64 + 1 + j) 0) (2 * tributaryIn l r + k)) y ∙ sym (placed-at j 0 hj (omega arith)) ∙ ap bitsOf z)
+      (sym (placed-at j 1 hj (omega arith)))
+
+  -- the first 32 symbols of a group, without the pilot's pair
+  upper-gathered : gathered 32 (g % 8 * 63 + 3) (drop (g * 64) f) r % 2 ^ 62 ≡ number 62 bitsOf
+  unfolding gathered
+  upper-gathered =
+      ap (λ (v : ℕ). v % 2 ^ 62) (gathered-append (g % 8 * 63 + 3) (drop (g * 64) f) r 1 31)
+      ∙ mul-add-mod-self-right (gathered 1 (g % 8 * 63 + 3) (drop (g * 64) f) r) (2 ^ 62) (gathered 31 (g % 8 * 63 + 3 + 1) (drop 1 (drop (g * 64) f)) r)
+      ∙ mod-eq-of-lt (gathered-lt (g % 8 * 63 + 3 + 1) (drop 1 (drop (g * 64) f)) r 31)
+      ∙ value-cong 4 31 _ _ at ∙ pairs-number bitsOf 31
+    where
+      at : (i : ℕ) → i < 31 → pairOf (g % 8 * 63 + 3 + 1 + i) r (getD (drop 1 (drop (g * 64) f)) i 0) ≡ bitsOf (2 * i) * 2 + bitsOf (2 * i + 1)
+      at i c =
+          let x = getD f (g * 64 + 1 + i) 0 in
+          let e : (g % 8 * 63 + 3 + 1 + i) % 4 ≡ (g % 8 * 63 + i) % 4 = omega arith in
+          ap (pairOf (g % 8 * 63 + 3 + 1 + i) r)
+          (getD-drop 1 (drop (g * 64) f) i 0 ∙ getD-drop (g * 64) f (1 + i) 0 ∙ ap (λ (k : ℕ). getD f k 0) (sym (add-assoc (g * 64) 1 i)))
+          ∙ sym (pair-mod (g % 8 * 63 + 3 + 1 + i) r x) ∙ ap (λ (l : ℕ). pairOf l r x) e ∙ pair-mod (g % 8 * 63 + i) r x
+          ∙ placed-pair i (omega arith)
+
+  -- the other 32
+  lower-gathered : gathered 32 (g % 8 * 63 + 31) (drop (g * 64 + 32) f) r ≡ number 64 (λ q. bitsOf (62 + q))
+  unfolding gathered
+  lower-gathered = value-cong 4 32 _ _ at ∙ pairs-number (λ q. bitsOf (62 + q)) 32
+    where
+      at : (i : ℕ) → i < 32 → pairOf (g % 8 * 63 + 31 + i) r (getD (drop (g * 64 + 32) f) i 0) ≡ bitsOf (62 + 2 * i) * 2 + bitsOf (62 + (2 * i + 1))
+      at i c =
+          let e : g % 8 * 63 + 31 + i ≡ g % 8 * 63 + (31 + i) = omega arith in
+          let d : g * 64 + 32 + i ≡ g * 64 + 1 + (31 + i) = omega arith in
+          let u : 2 * (31 + i) ≡ 62 + 2 * i = omega arith in
+          let v : 2 * (31 + i) + 1 ≡ 62 + (2 * i + 1) = omega arith in
+          ap₂ (λ (l x : ℕ). pairOf l r x) e (getD-drop (g * 64 + 32) f i 0 ∙ ap (λ (k : ℕ). getD f k 0) d)
+          ∙ placed-pair (31 + i) (omega arith) ∙ λ k. bitsOf (u k) * 2 + bitsOf (v k)
+
+  -- word i, by its upper and its lower number
+  pub placed-upper : (i : ℕ) → i ≡ 4 * g + r → gathered 32 (g % 8 * 63 + 3) (drop (g * 64) f) r % 2 ^ 62 ≡ placedWord f i / 2 ^ 64
+  unfolding bitsOf
+  placed-upper i e =
+      upper-gathered ∙ sym (value-top 2 62 64 bitsOf (λ q _. bits-lt q))
+      ∙ ap (λ (k : ℕ). placedWord f k / 2 ^ 64) (sym e)
+
+  pub placed-lower : (i : ℕ) → i ≡ 4 * g + r → gathered 32 (g % 8 * 63 + 31) (drop (g * 64 + 32) f) r ≡ placedWord f i % 2 ^ 64
+  unfolding bitsOf
+  placed-lower i e =
+      lower-gathered ∙ sym (value-low 2 62 64 bitsOf (λ q _. bits-lt q))
+      ∙ ap (λ (k : ℕ). placedWord f k % 2 ^ 64) (sym e)
+
+-- a turn: the eight numbers of four words are stored
+module _ (f : List ℕ) {s₀ : List ℕ} where
+  store : {s : List ℕ} (i o u x y : ℕ) → i < 384 → o ≡ 2 * i → u ≡ 2 * i + 1 → x ≡ placedWord f i / 2 ^ 64 → y ≡ placedWord f i % 2 ^ 64
+      → Filling (halfOf (placedWord f)) 768 s₀ s (2 * i) → Filling (halfOf (placedWord f)) 768 s₀ (set (set s o x) u y) (2 * (i + 1))
+  store {s} i o u x y h p q ex ey F =
+      subst (λ (k : ℕ). Filling (halfOf (placedWord f)) 768 s₀ (set (set s k x) u y) (2 * (i + 1))) (sym p)
+      (subst (λ (k : ℕ). Filling (halfOf (placedWord f)) 768 s₀ (set (set s (2 * i) x) k y) (2 * (i + 1))) (sym q)
+      (row-turn (placedWord f) i F x y (omega arith) ex ey))
+
+  pub turn-four : {s : List ℕ} (g : ℕ) (p q : Quad) → g < 96 → p ≡ masked (quadOf 32 (g % 8 * 63 + 3) (drop (g * 64) f)) → q ≡ quadOf 32 (g % 8 * 63 + 31) (drop (g * 64 + 32) f)
+      → Filling (halfOf (placedWord f)) 768 s₀ s (g * 8)
+      → Filling (halfOf (placedWord f)) 768 s₀
+      (set (set (set (set (set (set (set (set s (g * 8) (p .a)) (g * 8 + 1) (q .a)) (g * 8 + 2) (p .b)) (g * 8 + 3) (q .b)) (g * 8 + 4) (p .c)) (g * 8 + 5) (q .c)) (g * 8 + 6) (p .d)) (g * 8 + 7) (q .d))
+      ((g + 1) * 8)
+  unfolding masked quadOf
+  turn-four {s} g p q h ep eq F =
+      let z : g * 8 ≡ 2 * (4 * g) = omega arith in
+      let y : 2 * (4 * g + 1 + 1 + 1 + 1) ≡ (g + 1) * 8 = omega arith in
+      subst (Filling (halfOf (placedWord f)) 768 s₀ _) y
+      (store (4 * g + 1 + 1 + 1) (g * 8 + 6) (g * 8 + 7) (p .d) (q .d) (omega arith) (omega arith) (omega arith)
+      (ap (λ (v : Quad). v .d) ep ∙ placed-upper f g 3 h (omega arith) (4 * g + 1 + 1 + 1) (omega arith))
+      (ap (λ (v : Quad). v .d) eq ∙ placed-lower f g 3 h (omega arith) (4 * g + 1 + 1 + 1) (omega arith))
+      (store (4 * g + 1 + 1) (g * 8 + 4) (g * 8 + 5) (p .c) (q .c) (omega arith) (omega arith) (omega arith)
+      (ap (λ (v : Quad). v .c) ep ∙ placed-upper f g 2 h (omega arith) (4 * g + 1 + 1) (omega arith))
+      (ap (λ (v : Quad). v .c) eq ∙ placed-lower f g 2 h (omega arith) (4 * g + 1 + 1) (omega arith))
+      (store (4 * g + 1) (g * 8 + 2) (g * 8 + 3) (p .b) (q .b) (omega arith) (omega arith) (omega arith)
+      (ap (λ (v : Quad). v .b) ep ∙ placed-upper f g 1 h (omega arith) (4 * g + 1) (omega arith))
+      (ap (λ (v : Quad). v .b) eq ∙ placed-lower f g 1 h (omega arith) (4 * g + 1) (omega arith))
+      (store (4 * g) (g * 8) (g * 8 + 1) (p .a) (q .a) (omega arith) (omega arith) (omega arith)
+      (ap (λ (v : Quad). v .a) ep ∙ placed-upper f g 0 h (omega arith) (4 * g) (omega arith))
+      (ap (λ (v : Quad). v .a) eq ∙ placed-lower f g 0 h (omega arith) (4 * g) (omega arith))
+      (subst (Filling (halfOf (placedWord f)) 768 s₀ s) z F)))))
+
+-- ---- the words turned back
+
+row-cong : (n : ℕ) (f g : ℕ → ℕ) → ((i : ℕ) → i < n → f i ≡ g i) → rowOf n f ≡ rowOf n g
+unfolding halfOf
+row-cong n f g h =
+    tabulate-cong (2 * n) (halfOf f) (halfOf g)
+    (λ j l. ap (λ (v : ℕ). cond (eqb (j % 2) 0) (v / 2 ^ 64) (v % 2 ^ 64)) (h (j / 2) (omega arith)))
+
+-- turned by 90 p places, each bit is again where it was before the shuffle
+back-place : (p r : ℕ) → back (90 * p % 110) r ≡ place p r
+unfolding back place
+back-place p r = go (decLt r 110)
+  where
+    go : Dec (r < 110) → cond (ltb r 110) ((r + (110 - 90 * p % 110)) % 110) r ≡ cond (ltb r 110) ((r + 20 * p) % 110) r
+    go (yes h) = rw (lt-ltb r 110 h) (omega arith)
+    go (no h) = rw (le-ltb r 110 (omega arith))
+
+back-lt : (n r : ℕ) → r < 126 → back n r < 126
+unfolding back
+back-lt n r h = go (decLt r 110)
+  where
+    go : Dec (r < 110) → cond (ltb r 110) ((r + (110 - n)) % 110) r < 126
+    go (yes l) = rw (lt-ltb r 110 l) (omega arith)
+    go (no l) = rw (le-ltb r 110 (omega arith)) h
+
+pub words-is : (f p : List ℕ) → p ≡ placedRow f → turnedRow 90 p ≡ wordsOf f
+unfolding turnedRow placedRow wordsOf arrived turned placedBit
+words-is f p e =
+    ap (turnedRow 90) e
+    ∙ row-cong 384 _ _ (λ i h.
+    ap (turned (90 * (i % 32) % 110)) (row-at 384 _ i h (value-lt 2 126 _ (λ q _. bitAt-lt f _)))
+    ∙ value-cong 2 126 _ _ (λ r l.
+    bit-number 126 (placedBit f (i / 32) (i % 32)) (λ q _. bitAt-lt f _) (back (90 * (i % 32) % 110) r) (back-lt (90 * (i % 32) % 110) r l)
+    ∙ ap (placedBit f (i / 32) (i % 32)) (back-place (i % 32) r)))

@@ -1,0 +1,9 @@
+pub mod Levels
+pub mod Pilots
+pub mod Places
+pub mod Turning
+pub mod Entries
+pub mod Symbols
+pub mod Gathering
+pub mod Return
+pub mod Determined

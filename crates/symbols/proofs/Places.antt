@@ -1,0 +1,149 @@
+-- Shuffle and mapping undone: `unplace` is the inverse of `place`, and each place of a lane is met once, in its symbol and its tributary. Each 63 payload
+-- symbols carry four whole words, two bits of each word in each symbol.
+-- Assumes nothing.
+use mathlib.Core.Path.{_≡_, sym, ap, ap₂, _∙_}
+use mathlib.Core.Bool.{Bool, true, cond}
+use Prim.Native.Nat.{ℕ, _+_, _*_, _/_, _%_, _<_, _≤_}
+use native.Mathlib.Nat.{le-antisymm}
+use native.Mathlib.Decide.{decLt, ℕ-discrete}
+use native.Mathlib.Omega.{arith}
+use lib.Dec.{T, eqb, eqb→eq}
+use borrow.Author.Tests.{lt-ltb, le-ltb, eq-eqb, ne-eqb, eqb-true}
+use Rattle.bits.specs.Bits.{count}
+use Rattle.bits.proofs.Table.{each, range-rule}
+use Rattle.bits.proofs.Count.{count-inject}
+use Rattle.symbols.specs.Mapping.{place, unplace, laneOf, upper, lower, symbolOf, tributaryOf, bitIn}
+
+-- ---- the shuffle
+
+place-in : (p q : ℕ) → q < 110 → place p q ≡ (q + 20 * p) % 110
+unfolding place
+place-in p q h = rw (lt-ltb q 110 h)
+
+place-out : (p q : ℕ) → 110 ≤ q → place p q ≡ q
+unfolding place
+place-out p q h = rw (le-ltb q 110 h)
+
+unplace-in : (p r : ℕ) → r < 110 → unplace p r ≡ (r + 90 * p) % 110
+unfolding unplace
+unplace-in p r h = rw (lt-ltb r 110 h)
+
+unplace-out : (p r : ℕ) → 110 ≤ r → unplace p r ≡ r
+unfolding unplace
+unplace-out p r h = rw (le-ltb r 110 h)
+
+pub unplace-place : (p q : ℕ) → unplace p (place p q) ≡ q
+unplace-place p q = go (decLt q 110)
+  where
+    go : Dec (q < 110) → unplace p (place p q) ≡ q
+    go (yes h) = ap (unplace p) (place-in p q h) ∙ unplace-in p ((q + 20 * p) % 110) (omega arith) ∙ omega arith
+    go (no h) = ap (unplace p) (place-out p q (omega arith)) ∙ unplace-out p q (omega arith)
+
+pub place-unplace : (p r : ℕ) → place p (unplace p r) ≡ r
+place-unplace p r = go (decLt r 110)
+  where
+    go : Dec (r < 110) → place p (unplace p r) ≡ r
+    go (yes h) = ap (place p) (unplace-in p r h) ∙ place-in p ((r + 90 * p) % 110) (omega arith) ∙ omega arith
+    go (no h) = ap (place p) (unplace-out p r (omega arith)) ∙ place-out p r (omega arith)
+
+pub place-lt : (p q : ℕ) → q < 126 → place p q < 126
+place-lt p q h = go (decLt q 110)
+  where
+    go : Dec (q < 110) → place p q < 126
+    go (yes l) = rw (place-in p q l) (omega arith)
+    go (no l) = rw (place-out p q (omega arith)) h
+
+pub unplace-lt : (p r : ℕ) → r < 126 → unplace p r < 126
+unplace-lt p r h = go (decLt r 110)
+  where
+    go : Dec (r < 110) → unplace p r < 126
+    go (yes l) = rw (unplace-in p r l) (omega arith)
+    go (no l) = rw (unplace-out p r (omega arith)) h
+
+-- ---- the mapping
+
+module _ (p r : ℕ) (h : p < 32) (l : r < 126) where
+  pub symbol-lt : symbolOf p r < 504
+  unfolding symbolOf
+  symbol-lt = omega arith
+
+  pub bitIn-lt : bitIn p r < 8
+  unfolding bitIn tributaryOf
+  bitIn-lt = omega arith
+
+  -- its number tells the four lanes and the two places
+  symbol-lanes : symbolOf p r / 63 ≡ p / 4
+  unfolding symbolOf
+  symbol-lanes = omega arith
+
+  symbol-places : symbolOf p r % 63 ≡ r / 2
+  unfolding symbolOf
+  symbol-places = omega arith
+
+  -- its tributary has lane p there
+  pub lane-back : laneOf (symbolOf p r) (bitIn p r / 2) ≡ p
+  unfolding laneOf bitIn tributaryOf
+  lane-back =
+      let s = symbolOf p r in
+      let t : (2 * tributaryOf p r + (r + s) % 2) / 2 ≡ tributaryOf p r = omega arith in
+      ap₂ (λ (a b : ℕ). 4 * a + (2 * s + s / 2 % 2 + b) % 4) symbol-lanes t
+      ∙ ap (λ (v : ℕ). 4 * (p / 4) + v) (turn (2 * s + s / 2 % 2)) ∙ omega arith
+    where
+      turn : (x : ℕ) → (x + (p + 3 * x) % 4) % 4 ≡ p % 4
+      turn x = omega arith
+
+  -- at the place r, as its upper or its lower bit
+  pub place-back : cond (eqb (bitIn p r % 2) 0) (upper (symbolOf p r)) (lower (symbolOf p r)) ≡ r
+  unfolding bitIn upper lower
+  place-back = go (ℕ-discrete (bitIn p r % 2) 0)
+    where
+      s : ℕ
+      s = symbolOf p r
+
+      go : Dec (bitIn p r % 2 ≡ 0) → cond (eqb (bitIn p r % 2) 0) (2 * (s % 63) + s % 2) (2 * (s % 63) + (s + 1) % 2) ≡ r
+      go (yes e) = rw (eq-eqb (bitIn p r % 2) 0 e, symbol-places) (omega arith)
+      go (no e) = rw (ne-eqb (bitIn p r % 2) 0 e, symbol-places) (omega arith)
+
+-- ---- four whole words in each 63 payload symbols
+
+-- the payload symbol that carries bit q of word i
+abbrev pub carrier : ℕ → ℕ → ℕ
+carrier i q = 504 * (i / 32) + symbolOf (i % 32) (place (i % 32) q)
+
+carrier-is : (i q : ℕ) → carrier i q ≡ 63 * (i / 4) + place (i % 32) q / 2
+unfolding symbolOf
+carrier-is i q = omega arith
+
+-- every bit of words 4 g to 4 g + 3 lies in the 63 from 63 g on
+pub carrier-group : (i q : ℕ) → q < 126 → carrier i q / 63 ≡ i / 4
+carrier-group i q h = rw (carrier-is i q) (omega (arith, place-lt (i % 32) q h))
+
+places-ok : ℕ → Bool
+places-ok j = eqb (count (λ r. eqb (r / 2) j) 126) 2
+
+places-test : T (each places-ok 63 0)
+unfolding places-ok count
+places-test = tt
+
+-- two places to a symbol
+places-two : (j : ℕ) → j < 63 → count (λ r. eqb (r / 2) j) 126 ≡ 2
+unfolding places-ok
+places-two j h = eqb→eq (count (λ r. eqb (r / 2) j) 126) 2 (range-rule places-ok 63 0 places-test j (omega arith) (omega arith))
+
+-- and in each of them two bits of each of the four words
+pub carrier-two : (i j : ℕ) → j < 63 → count (λ q. eqb (carrier i q) (63 * (i / 4) + j)) 126 ≡ 2
+carrier-two i j h =
+    le-antisymm
+    (count-inject _ 126 _ 126 (place p)
+    (λ q l t. (place-lt p q l, eq-eqb (place p q / 2) j (omega (arith, carrier-is i q, eqb-true (carrier i q) (63 * (i / 4) + j) t))))
+    (λ q u _ _ _ _ e. sym (unplace-place p q) ∙ ap (unplace p) e ∙ unplace-place p u))
+    (count-inject _ 126 _ 126 (unplace p)
+    (λ r l t. (unplace-lt p r l, eq-eqb (carrier i (unplace p r)) (63 * (i / 4) + j) (found r t)))
+    (λ r u _ _ _ _ e. sym (place-unplace p r) ∙ ap (place p) e ∙ place-unplace p u))
+    ∙ places-two j h
+  where
+    p : ℕ
+    p = i % 32
+
+    found : (r : ℕ) → eqb (r / 2) j ≡ true → carrier i (unplace p r) ≡ 63 * (i / 4) + j
+    found r t = carrier-is i (unplace p r) ∙ ap₂ (λ (a b : ℕ). 63 * (i / 4) + a) (ap (λ (x : ℕ). x / 2) (place-unplace p r) ∙ eqb-true (r / 2) j t) (place-unplace p r)

@@ -1,0 +1,123 @@
+-- The way there and back: the words of a frame of words are those words, and the payload symbols of the frame of a frame's words are its own.
+-- Assumes nothing.
+use mathlib.Core.Path.{_≡_, sym, ap, ap₂, _∙_}
+use mathlib.Core.Bool.{cond}
+use mathlib.Core.List.{List}
+use Prim.Native.Nat.{ℕ, _+_, _-_, _*_, _/_, _%_, _^_, _<_}
+use native.Mathlib.Nat.{mod-eq-of-lt}
+use native.Mathlib.Decide.{ℕ-discrete}
+use native.Mathlib.Omega.{arith}
+use lib.Arith.{digits-lt, digits-div, digits-mod}
+use lib.Dec.{eqb}
+use lib.ListN.{length, getD}
+use borrow.Author.Tests.{eq-eqb, ne-eqb}
+use Rattle.bits.specs.Bits.{bitOf}
+use Rattle.bits.specs.Words.{wordOf, wordAt, halfOf}
+use Rattle.bits.proofs.Tabulate.{getD-tabulate, is-tabulate}
+use Rattle.bits.proofs.Value.{value-cong, value-lt, bit-lt, bit-number, number-bits}
+use Rattle.bits.proofs.Fields.{bitAt-lt, bitAt-byte}
+use Rattle.symbols.specs.Mapping.{place, unplace, payloadAt, symbolOf, bitIn}
+use Rattle.symbols.specs.Pilots.{pilots}
+use Rattle.symbols.specs.Frame.{carriedBit, payload, symbolAt, frameOf, placedBit, arrived, wordsOf}
+use Rattle.symbols.proofs.Places.{unplace-place, place-lt, symbol-lt, bitIn-lt, lane-back, place-back}
+
+-- ---- payload symbols in the frame
+
+pub payload-lt : (m : ℕ) → m < 6048 → payloadAt m < 6144
+unfolding payloadAt
+payload-lt m h = omega arith
+
+pub symbol-payload : (s : List ℕ) (m : ℕ) → symbolAt s (payloadAt m) ≡ payload s m
+unfolding symbolAt payloadAt
+symbol-payload s m =
+    let t = 64 * (m / 63) + 1 + m % 63 in
+    let n : t % 64 ≡ 0 → ⊥ = λ z. omega arith in
+    let e : 63 * (t / 64) + t % 64 - 1 ≡ m = omega arith in
+    rw (ne-eqb (t % 64) 0 n) (ap (payload s) e)
+
+pub frame-payload : (s : List ℕ) (m : ℕ) → m < 6048 → getD (frameOf s) (payloadAt m) 0 ≡ payload s m
+unfolding frameOf
+frame-payload s m h = getD-tabulate 6144 (symbolAt s) (payloadAt m) 0 (payload-lt m h) ∙ symbol-payload s m
+
+-- and a pilot is the first of each 64
+pub frame-pilot : (s : List ℕ) (k : ℕ) → k < 96 → getD (frameOf s) (64 * k) 0 ≡ getD pilots k 0
+unfolding frameOf symbolAt
+frame-pilot s k h =
+    let m : 64 * k % 64 ≡ 0 = omega arith in
+    let d : 64 * k / 64 ≡ k = omega arith in
+    getD-tabulate 6144 (symbolAt s) (64 * k) 0 (omega arith) ∙ rw (m, d)
+
+-- ---- a word's bits
+
+carried-lt : (s : List ℕ) (k l i : ℕ) → carriedBit s k l i < 2
+unfolding carriedBit
+carried-lt s k l i = bit-lt 126 _ _
+
+pub placed-lt : (f : List ℕ) (k p r : ℕ) → placedBit f k p r < 2
+unfolding placedBit
+placed-lt f k p r = bitAt-lt f _
+
+pub arrived-lt : (f : List ℕ) (i : ℕ) → arrived f i < 2 ^ 126
+unfolding arrived
+arrived-lt f i = value-lt 2 126 _ (λ q _. placed-lt f (i / 32) (i % 32) (place (i % 32) q))
+
+pub arrived-bit : (f : List ℕ) (i q : ℕ) → q < 126 → bitOf 126 (arrived f i) q ≡ placedBit f (i / 32) (i % 32) (place (i % 32) q)
+unfolding arrived
+arrived-bit f i q h = bit-number 126 _ (λ q _. placed-lt f (i / 32) (i % 32) (place (i % 32) q)) q h
+
+-- the bit of a frame of words that stands at place r of word k of lane p
+placed-frame : (s : List ℕ) (k p r : ℕ) → k < 12 → p < 32 → r < 126 → placedBit (frameOf s) k p r ≡ bitOf 126 (wordAt s (32 * k + p)) (unplace p r)
+unfolding placedBit payload carriedBit
+placed-frame s k p r hk hp hr =
+    bitAt-byte (frameOf s) (payloadAt m) (bitIn p r) (bitIn-lt p r hp hr)
+    ∙ ap (λ (x : ℕ). bitOf 8 x (bitIn p r)) (frame-payload s m (omega (arith, symbol-lt p r hp hr)))
+    ∙ bit-number 8 (carriedBit s (m / 504) (m % 504)) (λ i _. carried-lt s (m / 504) (m % 504) i) (bitIn p r) (bitIn-lt p r hp hr)
+    ∙ ap₂ (λ (a b : ℕ). carriedBit s a b (bitIn p r)) word row
+    ∙ ap₂ (λ (a b : ℕ). bitOf 126 (wordAt s (32 * k + a)) (unplace a b)) (lane-back p r hp hr) (place-back p r hp hr)
+  where
+    m : ℕ
+    m = 504 * k + symbolOf p r
+
+    word : m / 504 ≡ k
+    word = omega (arith, symbol-lt p r hp hr)
+
+    row : m % 504 ≡ symbolOf p r
+    row = omega (arith, symbol-lt p r hp hr)
+
+-- ---- there and back
+
+pub arrived-frame : (s : List ℕ) (i : ℕ) → i < 384 → wordAt s i < 2 ^ 126 → arrived (frameOf s) i ≡ wordAt s i
+unfolding arrived
+arrived-frame s i h l =
+    let e : 32 * (i / 32) + i % 32 ≡ i = omega arith in
+    value-cong 2 126 _ _ (λ q c.
+    placed-frame s (i / 32) (i % 32) (place (i % 32) q) (omega arith) (omega arith) (place-lt (i % 32) q c)
+    ∙ ap₂ (λ (a b : ℕ). bitOf 126 (wordAt s a) b) e (unplace-place (i % 32) q))
+    ∙ number-bits 126 (wordAt s i) l
+
+-- words of 126 bits, two numbers a word
+pub record Row (s : List ℕ) : Type 0 where
+  pub long : length s ≡ 768
+  pub upper-lt : (i : ℕ) → i < 384 → getD s (2 * i) 0 < 2 ^ 62
+  pub lower-lt : (i : ℕ) → i < 384 → getD s (2 * i + 1) 0 < 2 ^ 64
+
+-- `words_from_frame` of `frame_from_words` gives the words back
+pub words-frame : (s : List ℕ) → Row s → wordsOf (frameOf s) ≡ s
+unfolding wordsOf halfOf wordAt wordOf
+words-frame s R = sym (is-tabulate 0 s 768 (halfOf (arrived (frameOf s))) (R .long) (λ j h. at j h (ℕ-discrete (j % 2) 0)))
+  where
+    word-is : (i : ℕ) → i < 384 → wordAt s i ≡ getD s (2 * i) 0 * 2 ^ 64 + getD s (2 * i + 1) 0
+    word-is i h = ap (λ (v : ℕ). v * 2 ^ 64 + getD s (2 * i + 1) 0) (mod-eq-of-lt (R .upper-lt i h))
+
+    arrived-is : (i : ℕ) → i < 384 → arrived (frameOf s) i ≡ getD s (2 * i) 0 * 2 ^ 64 + getD s (2 * i + 1) 0
+    arrived-is i h = arrived-frame s i h (rw (word-is i h) (digits-lt (R .upper-lt i h) (R .lower-lt i h))) ∙ word-is i h
+
+    at : (j : ℕ) → j < 768 → Dec (j % 2 ≡ 0) → getD s j 0 ≡ cond (eqb (j % 2) 0) (arrived (frameOf s) (j / 2) / 2 ^ 64) (arrived (frameOf s) (j / 2) % 2 ^ 64)
+    at j h (yes e) =
+        let d : 2 * (j / 2) ≡ j = omega arith in
+        rw (eq-eqb (j % 2) 0 e)
+        (sym (ap (λ (v : ℕ). v / 2 ^ 64) (arrived-is (j / 2) (omega arith)) ∙ digits-div (getD s (2 * (j / 2)) 0) (R .lower-lt (j / 2) (omega arith)) ∙ ap (λ (k : ℕ). getD s k 0) d))
+    at j h (no e) =
+        let d : 2 * (j / 2) + 1 ≡ j = omega arith in
+        rw (ne-eqb (j % 2) 0 e)
+        (sym (ap (λ (v : ℕ). v % 2 ^ 64) (arrived-is (j / 2) (omega arith)) ∙ digits-mod (getD s (2 * (j / 2)) 0) (R .lower-lt (j / 2) (omega arith)) ∙ ap (λ (k : ℕ). getD s k 0) d))

@@ -1,0 +1,74 @@
+-- `symbols::block` meets its contract: v has the four numbers of the first j symbols in its fields. Assumes nothing.
+use mathlib.Core.Path.{_≡_}
+use Prim.Native.Nat.{_+_, _*_, _-_, _≤_}
+use native.Mathlib.Omega.{arith}
+use lib.ListN.{drop}
+use Rattle.symbols.specs.Tables.{fieldsOf}
+use Rattle.symbols.proofs.Gathering.{fields-none, fields-turn, fields-room, fields-lt, fields-done}
+use Rattle.symbols.proofs.block.Statement.{statement}
+use Rattle.symbols.proofs.block.Tie as tie
+
+abbrev Inv-loop : tie.InvT-loop
+Inv-loop t s at l v₀ j₀ v j = (j ≤ 8) × (v ≡ fieldsOf j l (drop at s))
+
+abbrev μ-loop : tie.MeasureT-loop
+μ-loop t s at l v₀ j₀ v j = 8 - j
+
+-- a turn's sum is the numbers of one symbol more
+turn : (c : tie.After-look Inv-loop μ-loop)
+    → c .before .before .before .loop .v * 4 + c .look .result
+    ≡ fieldsOf (c .before .before .before .loop .j + 1) (c .before .before .before .before .before .args .l) (drop (c .before .before .before .before .before .args .at) (c .before .before .before .before .before .args .s .now))
+turn c =
+    let a = c .before .before .before .before .before .args in
+    fields-turn (a .s .now) (a .at) (a .l) _ _ _ (c .before .before .before .loop .inv .1) (c .look .ensures)
+
+loop-holds : tie.Need-loop-holds Inv-loop μ-loop
+loop-holds c = let a = c .before .args in (omega arith, fields-none (a .s .now) (a .at) (a .l))
+
+mul-v : tie.Need-mul-v Inv-loop μ-loop
+mul-v c = let a = c .before .before .before .args in omega (arith, fields-room (a .s .now) (a .at) (a .l) _ _ (c .loop-test .taken) (c .before .loop .inv .1))
+
+add-look : tie.Need-add-look Inv-loop μ-loop
+add-look c = omega arith
+
+shared-slice-read-look : tie.Need-shared-slice-read-look Inv-loop μ-loop
+shared-slice-read-look c = omega arith
+
+add-look-2 : tie.Need-add-look-2 Inv-loop μ-loop
+add-look-2 c = omega arith
+
+look-requires : tie.Need-look-requires Inv-loop μ-loop
+look-requires c κs = c .before .before .before .before .pre .0
+
+add-v : tie.Need-add-v Inv-loop μ-loop
+add-v c = let a = c .before .before .before .before .before .args in record { fits = fields-lt (a .s .now) (a .at) (a .l) _ _ (omega arith) (turn c) }
+
+add-j : tie.Need-add-j Inv-loop μ-loop
+add-j c = omega arith
+
+loop-less : tie.Need-loop-less Inv-loop μ-loop
+loop-less c = omega arith
+
+loop-again : tie.Need-loop-again Inv-loop μ-loop
+loop-again c = (omega arith, turn c)
+
+returns : tie.Need-returns Inv-loop μ-loop
+returns c = let a = c .before .before .before .args in fields-done (a .s .now) (a .at) (a .l) _ _ (omega arith) (c .before .loop .inv .1)
+
+pub block-spec : {M : Type 1} → statement M
+block-spec =
+    tie.close
+    (tie.spec
+    Inv-loop
+    μ-loop
+    loop-holds
+    mul-v
+    add-look
+    shared-slice-read-look
+    add-look-2
+    look-requires
+    add-v
+    add-j
+    loop-less
+    loop-again
+    returns)

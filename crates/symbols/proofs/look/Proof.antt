@@ -1,0 +1,23 @@
+-- `symbols::look` meets its contract: the table's entry is the symbol's pairs. Assumes nothing.
+use Rattle.symbols.proofs.Gathering.{spread-at}
+use borrow.Author.Needs.{needs}
+use Rattle.symbols.proofs.look.Statement.{statement}
+use Rattle.symbols.proofs.look.Tie as tie
+
+mul-k : tie.Need-mul-k
+mul-k c = search needs
+
+add-k : tie.Need-add-k
+add-k c = search needs
+
+mul-result : tie.Need-mul-result
+mul-result c = search needs
+
+element-copy-out-result : tie.Need-element-copy-out-result
+element-copy-out-result c = search needs
+
+returns : tie.Need-returns
+returns c = spread-at _ (c .before .args .l) (c .before .args .x) (c .before .pre) (search needs)
+
+pub look-spec : {M : Type 1} → statement M
+look-spec = tie.close (tie.spec mul-k add-k mul-result element-copy-out-result returns)

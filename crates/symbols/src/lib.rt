@@ -1,0 +1,362 @@
+// Shuffle, mapping, levels, pilots and the DSP frame: a frame's words to its symbols and back, lock, labels and levels.
+// A word is two numbers: hi has bits 0 to 61 in its 62 low bits, lo has bits 62 to 125. Word 32 k + p of a frame is word k of lane p.
+ghost use mathlib.Core.Path.{_≡_};
+ghost use mathlib.Core.Bool.{cond, not};
+ghost use Prim.Native.Nat.{_<_, _≤_, _+_, _*_, _/_, _%_, _^_};
+ghost use lib.ListN.{length, drop};
+ghost use Rattle.bits.specs.Bits.{tabulate};
+ghost use Rattle.symbols.specs.Levels.{levelOf, labelOf};
+ghost use Rattle.symbols.specs.Pilots.{pilots, met, locks};
+ghost use Rattle.symbols.specs.Frame.{frameOf, wordsOf};
+ghost use Rattle.symbols.specs.Tables.{IsMap, IsSpread, Room, crossed, turnedFirst, turned, turnedRow, mapped, spreadOf, numberOf, quadAt, symbolFrom, mappedAt, quadOf, fieldsOf, joined, masked, placedRow};
+
+mod tables;
+
+// A label's signed level.
+pub enum Level {
+    At(i8),
+    None,
+}
+
+// A level's label.
+pub enum Label {
+    Is(u8),
+    None,
+}
+
+// A word in two numbers.
+struct Word {
+    hi: u64,
+    lo: u64,
+}
+
+// Two halves of a word's information, 55 bits each.
+struct Halves {
+    first: u64,
+    second: u64,
+}
+
+// A number of each of four lanes.
+struct Quad {
+    a: u64,
+    b: u64,
+    c: u64,
+    d: u64,
+}
+
+// The level of a two-bit label.
+pub fn label_level(label: u8) -> Level
+    ensures { λ r. ⌜ r ≡ levelOf label ⌝ }
+{
+    match label {
+        0 => Level::At(-3),
+        1 => Level::At(-1),
+        2 => Level::At(3),
+        3 => Level::At(1),
+        _ => Level::None,
+    }
+}
+
+// The label of a level.
+pub fn level_label(level: i8) -> Label
+    ensures { λ r. ⌜ r ≡ labelOf level ⌝ }
+{
+    match level {
+        -3 => Label::Is(0),
+        -1 => Label::Is(1),
+        1 => Label::Is(3),
+        3 => Label::Is(2),
+        _ => Label::None,
+    }
+}
+
+// 1 where pilot i differs or is missing, else 0.
+fn wrong(t: &[u8; 96], symbols: &[u8], offset: usize, i: usize) -> u64
+    requires { ⌜ now t ≡ pilots ⌝ }
+    requires { ⌜ i < 96 ⌝ }
+    ensures { λ r. ⌜ r ≡ cond (not (met (now (symbols .entry)) offset i)) 1 0 ⌝ }
+{
+    if symbols.len() <= offset {
+        return 1;
+    }
+    let step = 64 * i;
+    if symbols.len() - offset <= step {
+        return 1;
+    }
+    let x = symbols[offset + step];
+    let y = t[i];
+    if x == y {
+        return 0;
+    }
+    1
+}
+
+// The rule of lock: fewer than 25 of the 96 pilots differ, pilot i standing at symbol offset + 64 i.
+pub fn locks(symbols: &[u8], offset: usize) -> bool
+    ensures { λ r. ⌜ r ≡ locks (now (symbols .entry)) offset ⌝ }
+{
+    let t = tables::PILOTS;
+    let mut n: u64 = 0;
+    let mut i: usize = 0;
+    while i < 96 {
+        n += wrong(&t, symbols, offset, i);
+        i += 1;
+    }
+    n < 25
+}
+
+// The n last bits of x and then the 55 - n first of y, both numbers of 55 bits.
+fn cross(x: u64, y: u64, n: u64) -> u64
+    requires { ⌜ (y < 2 ^ 55) × (n < 55) ⌝ }
+    ensures { λ r. ⌜ (r ≡ crossed n x y) × (r < 2 ^ 55) ⌝ }
+{
+    let one = 1u64 << n;
+    let mask = one - 1;
+    let left = 55 - n;
+    ((x & mask) << left) | (y >> n)
+}
+
+// Two halves turned by n places, round the whole of 110.
+fn turn_halves(h: Halves, n: u64) -> Halves
+    requires { ⌜ (h .first < 2 ^ 55) × (h .second < 2 ^ 55) ⌝ }
+    requires { ⌜ n < 110 ⌝ }
+    ensures { λ r. ⌜ (r .first ≡ turnedFirst n (h .first) (h .second)) × (r .second ≡ turnedFirst n (h .second) (h .first)) ⌝ }
+    ensures { λ r. ⌜ (r .first < 2 ^ 55) × (r .second < 2 ^ 55) ⌝ }
+{
+    let x = h.first;
+    let y = h.second;
+    if n < 55 {
+        let a = cross(y, x, n);
+        let b = cross(x, y, n);
+        return Halves {
+            first: a,
+            second: b,
+        };
+    }
+    let m = n - 55;
+    let a = cross(x, y, m);
+    let b = cross(y, x, m);
+    Halves {
+        first: a,
+        second: b,
+    }
+}
+
+// A word whose information is turned by n places; its parity stays.
+fn turn(hi: u64, lo: u64, n: u64) -> Word
+    requires { ⌜ (hi < 2 ^ 62) × (n < 110) ⌝ }
+    ensures { λ r. ⌜ (r .hi ≡ turned n (hi * 2 ^ 64 + lo) / 2 ^ 64) × (r .lo ≡ turned n (hi * 2 ^ 64 + lo) % 2 ^ 64) ⌝ }
+{
+    let first = hi / 128;
+    let second = hi % 128 * 281474976710656 + lo / 65536;
+    let h = turn_halves(Halves { first, second }, n);
+    let a = h.first;
+    let b = h.second;
+    Word {
+        hi: a * 128 + b / 281474976710656,
+        lo: b % 281474976710656 * 65536 + lo % 65536,
+    }
+}
+
+// Each word of a row turned, a word of lane p by so many places times p.
+fn turn_words(words: &[u64], places: usize, out: &mut [u64])
+    requires { ⌜ (length (now words) ≡ 768) × (length (now out) ≡ 768) ⌝ }
+    requires { ⌜ places < 110 ⌝ }
+    ensures { λ _. ⌜ now (out .exit) ≡ turnedRow places (now (words .entry)) ⌝ }
+{
+    let mut i: usize = 0;
+    while i < 384 {
+        let hi = words[2 * i];
+        let lo = words[2 * i + 1];
+        let n = (places * (i % 32) % 110) as u64;
+        let w = turn(hi % 4611686018427387904, lo, n);
+        out[2 * i] = w.hi;
+        out[2 * i + 1] = w.lo;
+        i += 1;
+    }
+}
+
+// The byte of symbol l, from the byte of four lanes' pairs of bits in the lanes' order.
+fn byte_of(t: &[u8; 1024], y: u64, l: usize) -> u8
+    requires { ⌜ IsMap (now t) ⌝ }
+    requires { ⌜ y < 256 ⌝ }
+    ensures { λ r. ⌜ r ≡ mapped l y ⌝ }
+{
+    let k = 256 * (l % 4) + (y as usize);
+    t[k]
+}
+
+// Symbol i of n, the first of which is number l, from four numbers of n pairs of bits.
+fn symbol(t: &[u8; 1024], q: Quad, n: usize, l: usize, i: usize) -> u8
+    requires { ⌜ IsMap (now t) ⌝ }
+    requires { ⌜ (n ≤ 32) × ((l < 65536) × (i < n)) ⌝ }
+    ensures { λ r. ⌜ r ≡ symbolFrom n l (numberOf q) i ⌝ }
+{
+    let k = (2 * (n - (i + 1))) as u64;
+    let y = (q.a >> k) % 4 * 64 + (q.b >> k) % 4 * 16 + (q.c >> k) % 4 * 4 + (q.d >> k) % 4;
+    byte_of(t, y, l + i)
+}
+
+// As many symbols as there is room for, from number l on.
+fn fill(t: &[u8; 1024], q: Quad, l: usize, out: &mut [u8])
+    requires { ⌜ IsMap (now t) ⌝ }
+    requires { ⌜ (length (now out) ≤ 32) × (l < 65536) ⌝ }
+    ensures { λ _. ⌜ now (out .exit) ≡ tabulate (length (now (out .entry))) (symbolFrom (length (now (out .entry))) l (numberOf q)) ⌝ }
+{
+    let n = out.len();
+    let mut i: usize = 0;
+    while i < n {
+        out[i] = symbol(t, q, n, l, i);
+        i += 1;
+    }
+}
+
+// Four numbers of a row, every other from place o on.
+fn quad_at(s: &[u64], o: usize) -> Quad
+    requires { ⌜ o + 6 < length (now s) ⌝ }
+    ensures { λ r. ⌜ r ≡ quadAt (now (s .entry)) o ⌝ }
+{
+    let a = s[o];
+    let b = s[o + 2];
+    let c = s[o + 4];
+    let d = s[o + 6];
+    Quad { a, b, c, d }
+}
+
+// The frame of words whose bits stand at their places: a pilot, and 63 symbols of four words.
+fn map_words(t: &[u8; 1024], p: &[u8; 96], words: &[u64], frame: &mut [u8])
+    requires { ⌜ IsMap (now t) ⌝ }
+    requires { ⌜ now p ≡ pilots ⌝ }
+    requires { ⌜ (length (now words) ≡ 768) × (length (now frame) ≡ 6144) ⌝ }
+    ensures { λ _. ⌜ now (frame .exit) ≡ tabulate 6144 (mappedAt (now (words .entry))) ⌝ }
+{
+    let mut g: usize = 0;
+    while g < 96 {
+        let l = g % 8 * 63;
+        let upper = quad_at(words, g * 8);
+        let lower = quad_at(words, g * 8 + 1);
+        let a = g * 64;
+        let b = g * 64 + 1;
+        let m = g * 64 + 32;
+        let e = g * 64 + 64;
+        frame[a] = p[g];
+        fill(t, upper, l, &mut frame[b..m]);
+        fill(t, lower, l + 31, &mut frame[m..e]);
+        g += 1;
+    }
+}
+
+// The frame of 384 words.
+pub fn frame_from_words(words: &[u64; 768], frame: &mut [u8; 6144])
+    ensures { λ _. ⌜ now (frame .exit) ≡ frameOf (now (words .entry)) ⌝ }
+{
+    let t = tables::MAP;
+    let p = tables::PILOTS;
+    let mut placed = [0u64; 768];
+    turn_words(words, 20, &mut placed);
+    map_words(&t, &p, &placed, frame);
+}
+
+// The four lanes' pairs of bits of symbol l, in fields of 16 bits.
+fn look(t: &[u64; 1024], x: u8, l: usize) -> u64
+    requires { ⌜ IsSpread (now t) ⌝ }
+    ensures { λ r. ⌜ r ≡ spreadOf l x ⌝ }
+{
+    let k = 256 * (l % 4) + (x as usize);
+    t[k]
+}
+
+// Those of eight symbols from place at on, the first of which is number l, side by side in each field.
+fn block(t: &[u64; 1024], s: &[u8], at: usize, l: usize) -> u64
+    requires { ⌜ IsSpread (now t) ⌝ }
+    requires { ⌜ (at + 8 ≤ length (now s)) × (l < 65536) ⌝ }
+    ensures { λ r. ⌜ r ≡ fieldsOf 8 l (drop at (now (s .entry))) ⌝ }
+{
+    let mut v: u64 = 0;
+    let mut j: usize = 0;
+    while j < 8 {
+        v = v * 4 + look(t, s[at + j], l + j);
+        j += 1;
+    }
+    v
+}
+
+// Four numbers with the four fields behind them.
+fn join(q: Quad, v: u64) -> Quad
+    requires { ⌜ Room q ⌝ }
+    ensures { λ r. ⌜ r ≡ joined q v ⌝ }
+{
+    Quad {
+        a: q.a * 65536 + v / 281474976710656,
+        b: q.b * 65536 + v / 4294967296 % 65536,
+        c: q.c * 65536 + v / 65536 % 65536,
+        d: q.d * 65536 + v % 65536,
+    }
+}
+
+// The four lanes' numbers in 32 symbols from place at on, the first of which is number l.
+fn gather(t: &[u64; 1024], s: &[u8], at: usize, l: usize) -> Quad
+    requires { ⌜ IsSpread (now t) ⌝ }
+    requires { ⌜ (at + 32 ≤ length (now s)) × (l < 1024) ⌝ }
+    ensures { λ r. ⌜ r ≡ quadOf 32 l (drop at (now (s .entry))) ⌝ }
+{
+    let mut q = Quad {
+        a: 0,
+        b: 0,
+        c: 0,
+        d: 0,
+    };
+    let mut n: usize = 0;
+    while n < 32 {
+        let v = block(t, s, at + n, l + n);
+        q = join(q, v);
+        n += 8;
+    }
+    q
+}
+
+// Four numbers of 32 pairs without the first pair, which is the pilot's.
+fn mask(q: Quad) -> Quad
+    ensures { λ r. ⌜ r ≡ masked q ⌝ }
+{
+    Quad {
+        a: q.a % 4611686018427387904,
+        b: q.b % 4611686018427387904,
+        c: q.c % 4611686018427387904,
+        d: q.d % 4611686018427387904,
+    }
+}
+
+// The words of a frame, with their bits at their places: of each 64 symbols, the upper and the lower numbers of four words.
+fn gather_words(t: &[u64; 1024], frame: &[u8], words: &mut [u64])
+    requires { ⌜ IsSpread (now t) ⌝ }
+    requires { ⌜ (length (now frame) ≡ 6144) × (length (now words) ≡ 768) ⌝ }
+    ensures { λ _. ⌜ now (words .exit) ≡ placedRow (now (frame .entry)) ⌝ }
+{
+    let mut g: usize = 0;
+    while g < 96 {
+        let l = g % 8 * 63;
+        let p = mask(gather(t, frame, g * 64, l + 3));
+        let q = gather(t, frame, g * 64 + 32, l + 31);
+        let o = g * 8;
+        words[o] = p.a;
+        words[o + 1] = q.a;
+        words[o + 2] = p.b;
+        words[o + 3] = q.b;
+        words[o + 4] = p.c;
+        words[o + 5] = q.c;
+        words[o + 6] = p.d;
+        words[o + 7] = q.d;
+        g += 1;
+    }
+}
+
+// The 384 words of a frame; its pilots are not looked at.
+pub fn words_from_frame(frame: &[u8; 6144], words: &mut [u64; 768])
+    ensures { λ _. ⌜ now (words .exit) ≡ wordsOf (now (frame .entry)) ⌝ }
+{
+    let t = tables::SPREAD;
+    let mut placed = [0u64; 768];
+    gather_words(&t, frame, &mut placed);
+    turn_words(&placed, 90, words);
+}

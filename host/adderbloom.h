@@ -1,0 +1,28 @@
+/* The sending logic of the 800LR coherent line for a host program in C. */
+#ifndef ADDERBLOOM_H
+#define ADDERBLOOM_H
+
+#include <stddef.h>
+#include <stdint.h>
+
+#ifdef __cplusplus
+extern "C" {
+#endif
+
+#define LR800_LANES 5280 /* 32 lanes of 165 bytes, lane 0 first; the top bit of a byte goes first */
+#define LR800_STORE 2880 /* a delay store; all zero is fresh, any content is lawful */
+#define LR800_FRAME 6144 /* symbols of a frame, a byte each: XI, XQ, YI, YQ, two bits each, XI on top */
+
+/* Sends a frame. The store is the sender's own: lend it to every call of a stream, and to no receiver.
+ * Returns 0, or the lowest of these, and then nothing is changed:
+ *   1  input is not LR800_LANES bytes long
+ *   2  store is not LR800_STORE bytes long
+ *   3  output is not LR800_FRAME bytes long
+ * The buffers must not overlap. A length of 0 may come with a null pointer, another length may not. */
+uint32_t lr800_send(const uint8_t *input, size_t input_length, uint8_t *store, size_t store_length, uint8_t *output, size_t output_length);
+
+#ifdef __cplusplus
+}
+#endif
+
+#endif
