@@ -41,16 +41,28 @@ information-is : (hi lo : ℕ) → lo < 2 ^ 64 → hi % 2 ^ 62 * 2 ^ 48 + lo / 2
 unfolding wordOf
 information-is hi lo h = omega arith
 
-pub parity-law : (hi lo u l r : ℕ) → lo < 2 ^ 64 → u ≡ feedOf 0 62 hi → l ≡ feedOf u 48 (lo / 2 ^ 16) → r ≡ feedOf l 16 0
+pub parity-law : (hi lo t u r : ℕ) → lo < 2 ^ 64 → t ≡ hi % 2 ^ 62 / 2 ^ 46 → u ≡ feedOf t 46 hi → r ≡ feedOf u 64 (lo / 2 ^ 16 * 2 ^ 16)
     → r ≡ parityOf (informationOf (wordOf hi lo))
 unfolding parityOf
-parity-law hi lo u l r h eu el er =
-    er
-    ∙ ap (λ (x : ℕ). feedOf x 16 0)
-    (el ∙ ap (λ (x : ℕ). feedOf x 48 (lo / 2 ^ 16)) (eu ∙ sym (feed-low 0 62 hi))
-    ∙ feed-append 0 62 48 (hi % 2 ^ 62) (lo / 2 ^ 16) (shr-lt 48 16 h) ∙ ap (feedOf 0 110) (information-is hi lo h))
-    ∙ feed-append 0 110 16 (informationOf (wordOf hi lo)) 0 (lit< tt)
-    ∙ ap (feedOf 0 126) (add-zero (informationOf (wordOf hi lo) * 2 ^ 16))
+parity-law hi lo t u r h et eu er =
+    er ∙ ap (λ (x : ℕ). feedOf x 64 lower) (eu ∙ ap (λ (x : ℕ). feedOf x 46 hi) (et ∙ sym (remainder-own top below)) ∙ sym (feed-low (feedOf 0 16 top) 46 hi)
+    ∙ feed-append 0 16 46 top (hi % 2 ^ 46) (mod-lt hi (lit< tt)) ∙ ap (feedOf 0 62) whole)
+    ∙ feed-append 0 62 64 (hi % 2 ^ 62) lower (omega arith) ∙ ap (feedOf 0 126) all
+  where
+    top : ℕ
+    top = hi % 2 ^ 62 / 2 ^ 46
+
+    lower : ℕ
+    lower = lo / 2 ^ 16 * 2 ^ 16
+
+    below : hi % 2 ^ 62 / 2 ^ 46 < 65536
+    below = omega arith
+
+    whole : hi % 2 ^ 62 / 2 ^ 46 * 2 ^ 46 + hi % 2 ^ 46 ≡ hi % 2 ^ 62
+    whole = omega arith
+
+    all : hi % 2 ^ 62 * 2 ^ 64 + lo / 2 ^ 16 * 2 ^ 16 ≡ informationOf (wordOf hi lo) * 2 ^ 16
+    all = let e = information-is hi lo h in omega arith
 
 -- ---- by 32 bits
 

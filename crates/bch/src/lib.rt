@@ -43,7 +43,11 @@ fn step(r: u64, b: u64) -> u64
     requires { ⌜ (r < 65536) × (b < 2) ⌝ }
     ensures { λ v. ⌜ v ≡ stepOf r b ⌝ }
 {
-    (r * 2 + b) ^ (r / 32768 * 0x14EAB)
+    let v = r * 2 + b;
+    if r < 32768 {
+        return v;
+    }
+    v ^ 0x14EAB
 }
 
 // The n low bits of w below a remainder, bit by bit.
@@ -64,9 +68,10 @@ fn feed(start: u64, n: u64, w: u64) -> u64
 pub fn parity(hi: u64, lo: u64) -> u64
     ensures { λ r. ⌜ r ≡ parityOf (informationOf (wordOf hi lo)) ⌝ }
 {
-    let upper = feed(0, 62, hi);
-    let lower = feed(upper, 48, lo >> 16);
-    feed(lower, 16, 0)
+    // the first 16 coefficients are their own remainder
+    let top = hi % 4611686018427387904 / 70368744177664;
+    let upper = feed(top, 46, hi);
+    feed(upper, 64, lo / 65536 * 65536)
 }
 
 // Entry k of a table.

@@ -1,4 +1,5 @@
--- `bch::parity` meets its contract: the upper 62 bits, 48 of the lower, then 16 zeros. Assumes nothing.
+-- `bch::parity` meets its contract: the first 16 bits, 46 more, then 48 and 16 zeros. Assumes nothing.
+use mathlib.Core.Path.{refl}
 use Rattle.bch.proofs.Folding.{parity-law}
 use borrow.Author.Needs.{needs}
 use Rattle.bch.proofs.parity.Statement.{statement}
@@ -7,14 +8,14 @@ use Rattle.bch.proofs.parity.Tie as tie
 feed-requires : tie.Need-feed-requires
 feed-requires c κs = search needs
 
+mul-feed : tie.Need-mul-feed
+mul-feed c = search needs
+
 feed-requires-2 : tie.Need-feed-requires-2
 feed-requires-2 c κs = search needs
 
-feed-requires-3 : tie.Need-feed-requires-3
-feed-requires-3 c κs = search needs
-
 returns : tie.Need-returns
-returns c = parity-law _ _ _ _ _ (search needs) (c .before .before .feed .ensures .0) (c .before .feed2 .ensures .0) (c .feed3 .ensures .0)
+returns c = parity-law _ _ _ _ _ (search needs) refl (c .before .feed .ensures .0) (c .feed2 .ensures .0)
 
 pub parity-spec : {M : Type 1} → statement M
-parity-spec = tie.close (tie.spec feed-requires feed-requires-2 feed-requires-3 returns)
+parity-spec = tie.close (tie.spec feed-requires mul-feed feed-requires-2 returns)

@@ -1,21 +1,26 @@
--- `bch::step` meets its contract: the code is the definition. Assumes nothing.
+-- `bch::step` meets its contract: the generator is taken off exactly where a bit leaves at the top. Assumes nothing.
+use mathlib.Core.Path.{_≡_}
+use Prim.Native.Nat.{_/_}
+use native.Mathlib.Omega.{arith}
+use lib.Bits.{xor-zero-r}
 use Rattle.bch.specs.Code.{stepOf}
 use borrow.Author.Needs.{needs}
 use Rattle.bch.proofs.step.Statement.{statement}
 use Rattle.bch.proofs.step.Tie as tie
 
-mul-result : tie.Need-mul-result
-mul-result c = search needs
+mul-v : tie.Need-mul-v
+mul-v c = search needs
 
-add-result : tie.Need-add-result
-add-result c = search needs
-
-mul-result-2 : tie.Need-mul-result-2
-mul-result-2 c = search needs
+add-v : tie.Need-add-v
+add-v c = search needs
 
 returns : tie.Need-returns
 unfolding stepOf
-returns c = search needs
+returns c = let e : c .before .args .r / 32768 ≡ 0 = omega arith in rw (e, xor-zero-r)
+
+returns-2 : tie.Need-returns-2
+unfolding stepOf
+returns-2 c = let e : c .before .args .r / 32768 ≡ 1 = omega arith in rw e
 
 pub step-spec : {M : Type 1} → statement M
-step-spec = tie.close (tie.spec mul-result add-result mul-result-2 returns)
+step-spec = tie.close (tie.spec mul-v add-v returns returns-2)
