@@ -315,6 +315,16 @@ block-turn g {n} {out₀} b v0 v1 v2 v3 v4 F h e0 e1 e2 e3 e4 =
     let next : 5 * b + 4 + 1 ≡ 5 * (b + 1) = omega arith in
     subst (Filling g n out₀ _) next F4
 
+-- byte c of block b of the permuted frame, from the byte there, in the partner lane
+pub permuted-at : (t : List ℕ) → IsMasks t → (e b c i there m v : ℕ) (x : List ℕ) → e < 16 → b < 1056 → c < 5
+    → i ≡ 5 * b + c → there ≡ (5 * b + 2640) % 5280 + c → m ≡ 5 * e + c → Merged (getD x i 0) (getD x there 0) (getD t m 0) v
+    → v ≡ number 8 (λ k. permuted (named e) (lanesOf x) ((8 * i + k) / 1320) ((8 * i + k) % 1320))
+permuted-at t T e b c i there m v x he hb hc ei eo em M =
+    let o : there ≡ (i + 2640) % 5280 = omega arith in
+    let l : m ≡ 5 * e + i % 5 = omega arith in
+    permuted-byte t T e i v x he (omega arith)
+    (subst (λ (j : ℕ). Merged (getD x i 0) (getD x j 0) (getD t (5 * e + i % 5) 0) v) o (subst (λ (j : ℕ). Merged (getD x i 0) (getD x there 0) (getD t j 0) v) l M))
+
 -- byte c of the block that entry b leads to is byte 5 b + c
 pub block-at : (x s t : List ℕ) (p first b c i : ℕ) {v : ℕ} → c < 5 → i ≡ 5 * b + c → v ≡ blockByte x s p (getD t (first + b) 0) c
     → v ≡ blockByte x s p (getD t (first + i / 5) 0) (i % 5)

@@ -16,17 +16,23 @@ fn merge(a: u8, b: u8, m: u8) -> u8
     a ^ ((a ^ b) & m)
 }
 
-// Each byte of a lane with the bits at the exchanged places from its partner's.
+// Each byte of a lane with the bits at the exchanged places from its partner's, block by block.
 fn permute(masks: &[u8; 80], exchanged: usize, x: &[u8], out: &mut [u8])
     requires { ⌜ IsMasks (now masks) ⌝ }
     requires { ⌜ (exchanged < 16) × (length (now x) ≡ 5280) × (length (now out) ≡ 5280) ⌝ }
     ensures { λ _. ⌜ now (out .exit) ≡ frameOf (permuted (named exchanged) (lanesOf (now (x .entry)))) ⌝ }
 {
-    let mut i: usize = 0;
-    while i < 5280 {
-        let m = masks[5 * exchanged + i % 5];
-        out[i] = merge(x[i], x[(i + 2640) % 5280], m);
-        i += 1;
+    let m = 5 * exchanged;
+    let mut b: usize = 0;
+    while b < 1056 {
+        let at = 5 * b;
+        let there = (at + 2640) % 5280;
+        out[at] = merge(x[at], x[there], masks[m]);
+        out[at + 1] = merge(x[at + 1], x[there + 1], masks[m + 1]);
+        out[at + 2] = merge(x[at + 2], x[there + 2], masks[m + 2]);
+        out[at + 3] = merge(x[at + 3], x[there + 3], masks[m + 3]);
+        out[at + 4] = merge(x[at + 4], x[there + 4], masks[m + 4]);
+        b += 1;
     }
 }
 
