@@ -11,7 +11,7 @@ use Rattle.lanes.specs.Stream.{interleaved}
 use Rattle.symbols.specs.Mapping.{place, laneOf, upper, lower, payloadAt}
 use Rattle.framing.specs.Send.{base}
 
--- what the definitions give, and what 01 prints
+-- a row by its number in 01: what the definitions give, and what is printed
 pub record Figure : Type 0 where
   pub number : ℕ
   pub given : List ℕ

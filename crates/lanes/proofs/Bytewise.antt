@@ -281,6 +281,18 @@ woven-lt R s y bit p i = go (ltb n d)
 pub lanes-lt : (a : List ℕ) (p i : ℕ) → lanesOf a p i < 2
 lanes-lt a p i = bitAt-lt a (1320 * p + i)
 
+-- the same both ways
+pub permuted-twice : (ex : Places) (x : Lanes) (p i : ℕ) → p < 32 → permuted ex (permuted ex x) p i ≡ x p i
+unfolding permuted
+permuted-twice ex x p i h = go (ex (i / 10 % 4))
+  where
+    back : partner (partner p) ≡ p
+    back = omega arith
+
+    go : (b : Bool) → cond b (cond b (x (partner (partner p)) i) (x (partner p) i)) (cond b (x (partner p) i) (x p i)) ≡ x p i
+    go true = ap (λ (q : ℕ). x q i) back
+    go false = refl
+
 -- the permutation hangs on a frame's bits alone, and on the four places that a number names
 pub permuted-cong : (ex ex′ : Places) (x y : Lanes) → ((s : ℕ) → s < 4 → ex s ≡ ex′ s) → ((p i : ℕ) → p < 32 → i < 1320 → x p i ≡ y p i)
     → frameOf (permuted ex x) ≡ frameOf (permuted ex′ y)

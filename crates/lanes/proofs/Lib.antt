@@ -6,4 +6,3 @@ pub mod Stream
 pub mod Laying
 pub mod LaneWords
 pub mod Determined
-pub mod WordsDetermined

@@ -26,10 +26,11 @@ abbrev pub stored : List ℕ → Lanes
 stored s p i = bitAt s (720 * p + i)
 
 module _ (R : Rows) (s : List ℕ) (x : Lanes) where
-  -- bit c of the block that entered row r as number k of this frame; before the frame, newest first, from the store
+  -- bit c of the block that entered row r as number k of this frame
   abbrev pub entered : ℕ → ℕ → ℕ → ℕ → ℕ
   entered p r k c = x p (40 * (3 * k + r) + c)
 
+  -- bit c of the block that stands at place j of row r in the store, newest first
   abbrev pub kept : ℕ → ℕ → ℕ → ℕ → ℕ
   kept p r j c = stored s p (40 * (R .start r + j) + c)
 
@@ -44,7 +45,7 @@ module _ (R : Rows) (s : List ℕ) (x : Lanes) where
   abbrev pub keptNext : ℕ → ℕ → ℕ → ℕ → ℕ
   keptNext p r j c = cond (ltb j 11) (entered p r (11 - suc j) c) (kept p r (j - 11) c)
 
--- the row in which block b of a lane's store lies
+-- the row in which block b of a lane's store lies, the rows lying there in rising order
 abbrev pub rowAt : Rows → ℕ → ℕ
 rowAt R b = cond (ltb b (R .start 1)) 0 (cond (ltb b (R .start 1 + R .depth 1)) 1 2)
 

@@ -14,7 +14,6 @@ use Rattle.symbols.proofs.frame_from_words.Reads as frame-reads
 use Rattle.symbols.proofs.words_from_frame.Kinds as words-kinds
 use Rattle.symbols.proofs.words_from_frame.Reads as words-reads
 
--- an answer, and no buffer
 pub label-level-determined : Fixes 0 level-kinds.ps level-kinds.r level-reads.Post (λ κs s t. Unit)
 label-level-determined κs a x y s t p q = (p ∙ sym q, tt)
 

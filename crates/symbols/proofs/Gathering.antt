@@ -22,6 +22,7 @@ use Rattle.bits.proofs.Words.{row-at, row-turn}
 use Rattle.symbols.specs.declared.Quad.{Quad}
 use Rattle.symbols.specs.Mapping.{place, payloadAt, symbolOf, tributaryOf, bitIn}
 use Rattle.symbols.specs.Frame.{placedBit, arrived, wordsOf}
+use Rattle.symbols.proofs.Symbols.{tributary-mod}
 use Rattle.symbols.specs.Tables.{back, turned, turnedRow, tributaryIn, pairOf, spreadOf, IsSpread, gathered, quadOf, fieldsOf, Room, joined, masked, placedWord, placedRow}
 
 -- ---- a symbol's pairs, by the table
@@ -33,13 +34,6 @@ pair-lt l r x = omega (arith, bit-lt 8 x (2 * tributaryIn l r + l % 2), bit-lt 8
 tributary-lt : (l r : ℕ) → tributaryIn l r < 4
 unfolding tributaryIn
 tributary-lt l r = omega arith
-
-tributary-mod : (l r : ℕ) → tributaryIn (l % 4) r ≡ tributaryIn l r
-unfolding tributaryIn
-tributary-mod l r =
-    let p : l / 2 % 2 ≡ l % 4 / 2 % 2 = omega arith in
-    let e : r + 3 * (2 * l + l / 2 % 2) ≡ r + 3 * (2 * (l % 4) + l % 4 / 2 % 2) + 6 * (l / 4) * 4 = omega arith in
-    sym (ap (λ (n : ℕ). n % 4) e ∙ add-mul-mod-self-right (r + 3 * (2 * (l % 4) + l % 4 / 2 % 2)) (6 * (l / 4)) 4)
 
 pair-mod : (l r x : ℕ) → pairOf (l % 4) r x ≡ pairOf l r x
 unfolding pairOf

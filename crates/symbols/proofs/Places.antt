@@ -104,6 +104,29 @@ module _ (p r : ℕ) (h : p < 32) (l : r < 126) where
       go (yes e) = rw (eq-eqb (bitIn p r % 2) 0 e, symbol-places) (omega arith)
       go (no e) = rw (ne-eqb (bitIn p r % 2) 0 e, symbol-places) (omega arith)
 
+-- and the other way: the lane and the place of bit i of symbol l lead back to l and i
+module _ (l i : ℕ) (h : l < 504) (b : i < 8) where
+  pub lane-lt : laneOf l (i / 2) < 32
+  unfolding laneOf
+  lane-lt = omega arith
+
+  lane-lanes : laneOf l (i / 2) / 4 ≡ l / 63
+  unfolding laneOf
+  lane-lanes = omega arith
+
+  -- a place of symbol l, whichever of the two it is
+  module _ (r : ℕ) (half : r / 2 ≡ l % 63) where
+    pub symbol-back : symbolOf (laneOf l (i / 2)) r ≡ l
+    unfolding symbolOf
+    symbol-back = rw (lane-lanes, half) (omega arith)
+
+    pub bit-back : (r + l) % 2 ≡ i % 2 → bitIn (laneOf l (i / 2)) r ≡ i
+    unfolding bitIn tributaryOf laneOf
+    bit-back e = rw (symbol-back, e, turn (2 * l + l / 2 % 2) (l / 63) (i / 2) (omega arith)) (omega arith)
+      where
+        turn : (x y t : ℕ) → t < 4 → (4 * y + (x + t) % 4 + 3 * x) % 4 ≡ t
+        turn x y t l = omega arith
+
 -- ---- four whole words in each 63 payload symbols
 
 -- the payload symbol that carries bit q of word i

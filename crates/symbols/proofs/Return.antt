@@ -1,31 +1,37 @@
--- The way there and back: the words of a frame of words are those words, and the payload symbols of the frame of a frame's words are its own.
+-- The way there and back: the words of a frame of words are those words, and a frame with the right pilots is the frame of its words.
 -- Assumes nothing.
-use mathlib.Core.Path.{_≡_, sym, ap, ap₂, _∙_}
-use mathlib.Core.Bool.{cond}
+use mathlib.Core.Path.{_≡_, refl, sym, ap, ap₂, _∙_}
+use mathlib.Core.Bool.{true, not, cond}
 use mathlib.Core.List.{List}
 use Prim.Native.Nat.{ℕ, _+_, _-_, _*_, _/_, _%_, _^_, _<_}
-use native.Mathlib.Nat.{mod-eq-of-lt}
+use native.Mathlib.Nat.{mod-eq-of-lt, zero-add}
 use native.Mathlib.Decide.{ℕ-discrete}
 use native.Mathlib.Omega.{arith}
 use lib.Arith.{digits-lt, digits-div, digits-mod}
-use lib.Dec.{eqb}
+use lib.Dec.{eqb, ltb}
 use lib.ListN.{length, getD}
-use borrow.Author.Tests.{eq-eqb, ne-eqb}
-use Rattle.bits.specs.Bits.{bitOf}
-use Rattle.bits.specs.Words.{wordOf, wordAt, halfOf}
-use Rattle.bits.proofs.Tabulate.{getD-tabulate, is-tabulate}
+use borrow.Author.Tests.{lt-ltb, eq-eqb, ne-eqb}
+use Rattle.bits.specs.Bits.{bitOf, bitAt}
+use Rattle.bits.specs.Words.{wordOf, wordAt, halfOf, rowOf}
+use Rattle.bits.proofs.Tabulate.{length-tabulate, getD-tabulate, is-tabulate}
 use Rattle.bits.proofs.Value.{value-cong, value-lt, bit-lt, bit-number, number-bits}
-use Rattle.bits.proofs.Fields.{bitAt-lt, bitAt-byte}
-use Rattle.symbols.specs.Mapping.{place, unplace, payloadAt, symbolOf, bitIn}
-use Rattle.symbols.specs.Pilots.{pilots}
+use Rattle.bits.proofs.Count.{count-none}
+use Rattle.bits.proofs.Fields.{Bytes, bitAt-lt, bitAt-byte}
+use Rattle.bits.proofs.Words.{row-at}
+use Rattle.symbols.specs.Mapping.{place, unplace, laneOf, upper, lower, payloadAt, symbolOf, bitIn}
+use Rattle.symbols.specs.Pilots.{pilots, met, wrongPilots, lockLimit, locks}
 use Rattle.symbols.specs.Frame.{carriedBit, payload, symbolAt, frameOf, placedBit, arrived, wordsOf}
-use Rattle.symbols.proofs.Places.{unplace-place, place-lt, symbol-lt, bitIn-lt, lane-back, place-back}
+use Rattle.symbols.proofs.Places.{unplace-place, place-unplace, place-lt, unplace-lt, symbol-lt, bitIn-lt, lane-back, place-back, lane-lt, symbol-back, bit-back}
 
 -- ---- payload symbols in the frame
 
 pub payload-lt : (m : ℕ) → m < 6048 → payloadAt m < 6144
 unfolding payloadAt
 payload-lt m h = omega arith
+
+payload-back : (t : ℕ) → (t % 64 ≡ 0 → ⊥) → payloadAt (63 * (t / 64) + t % 64 - 1) ≡ t
+unfolding payloadAt
+payload-back t n = omega arith
 
 pub symbol-payload : (s : List ℕ) (m : ℕ) → symbolAt s (payloadAt m) ≡ payload s m
 unfolding symbolAt payloadAt
@@ -47,6 +53,22 @@ frame-pilot s k h =
     let d : 64 * k / 64 ≡ k = omega arith in
     getD-tabulate 6144 (symbolAt s) (64 * k) 0 (omega arith) ∙ rw (m, d)
 
+frame-length : (s : List ℕ) → length (frameOf s) ≡ 6144
+unfolding frameOf
+frame-length s = length-tabulate 6144 (symbolAt s)
+
+pilot-there : (f : List ℕ) (i : ℕ) → 64 * i < length f → getD f (64 * i) 0 ≡ getD pilots i 0 → met f 0 i ≡ true
+unfolding met
+pilot-there f i h e = rw (zero-add (64 * i), lt-ltb (64 * i) (length f) h, eq-eqb (getD f (64 * i) 0) (getD pilots i 0) e)
+
+-- so that an undamaged frame locks
+pub frame-locks : (s : List ℕ) → locks (frameOf s) 0 ≡ true
+unfolding locks wrongPilots
+frame-locks s = ap (λ (n : ℕ). ltb n lockLimit) (count-none (λ i. not (met (frameOf s) 0 i)) 96 (λ i h. ap not (pilot i h)))
+  where
+    pilot : (i : ℕ) → i < 96 → met (frameOf s) 0 i ≡ true
+    pilot i h = pilot-there (frameOf s) i (rw (frame-length s) (omega arith)) (frame-pilot s i h)
+
 -- ---- a word's bits
 
 carried-lt : (s : List ℕ) (k l i : ℕ) → carriedBit s k l i < 2
@@ -66,7 +88,7 @@ unfolding arrived
 arrived-bit f i q h = bit-number 126 _ (λ q _. placed-lt f (i / 32) (i % 32) (place (i % 32) q)) q h
 
 -- the bit of a frame of words that stands at place r of word k of lane p
-placed-frame : (s : List ℕ) (k p r : ℕ) → k < 12 → p < 32 → r < 126 → placedBit (frameOf s) k p r ≡ bitOf 126 (wordAt s (32 * k + p)) (unplace p r)
+pub placed-frame : (s : List ℕ) (k p r : ℕ) → k < 12 → p < 32 → r < 126 → placedBit (frameOf s) k p r ≡ bitOf 126 (wordAt s (32 * k + p)) (unplace p r)
 unfolding placedBit payload carriedBit
 placed-frame s k p r hk hp hr =
     bitAt-byte (frameOf s) (payloadAt m) (bitIn p r) (bitIn-lt p r hp hr)
@@ -121,3 +143,57 @@ words-frame s R = sym (is-tabulate 0 s 768 (halfOf (arrived (frameOf s))) (R .lo
         let d : 2 * (j / 2) + 1 ≡ j = omega arith in
         rw (ne-eqb (j % 2) 0 e)
         (sym (ap (λ (v : ℕ). v % 2 ^ 64) (arrived-is (j / 2) (omega arith)) ∙ digits-mod (getD s (2 * (j / 2)) 0) (R .lower-lt (j / 2) (omega arith)) ∙ ap (λ (k : ℕ). getD s k 0) d))
+
+-- ---- and the other way: a frame with the right pilots
+
+placed-is : (f : List ℕ) (k p r : ℕ) → placedBit f k p r ≡ bitAt f (8 * payloadAt (504 * k + symbolOf p r) + bitIn p r)
+unfolding placedBit
+placed-is f k p r = refl
+
+-- bit i of a payload symbol, put together from the words of the frame
+carried-words : (f : List ℕ) (k l i : ℕ) → k < 12 → l < 504 → i < 8 → carriedBit (wordsOf f) k l i ≡ bitAt f (8 * payloadAt (504 * k + l) + i)
+unfolding carriedBit wordsOf upper lower
+carried-words f k l i hk hl hi = go (ℕ-discrete (i % 2) 0)
+  where
+    placed : (r : ℕ) → r / 2 ≡ l % 63 → (r + l) % 2 ≡ i % 2 → placedBit f k (laneOf l (i / 2)) r ≡ bitAt f (8 * payloadAt (504 * k + l) + i)
+    placed r half e = placed-is f k (laneOf l (i / 2)) r ∙ ap₂ (λ (a b : ℕ). bitAt f (8 * payloadAt (504 * k + a) + b)) (symbol-back l i hl hi r half) (bit-back l i hl hi r half e)
+
+    at : (r : ℕ) → r < 126 → r / 2 ≡ l % 63 → (r + l) % 2 ≡ i % 2
+        → bitOf 126 (wordAt (rowOf 384 (arrived f)) (32 * k + laneOf l (i / 2))) (unplace (laneOf l (i / 2)) r) ≡ bitAt f (8 * payloadAt (504 * k + l) + i)
+    at r hr half e =
+        let w = 32 * k + laneOf l (i / 2) in
+        let lt = lane-lt l i hl hi in
+        let number : w / 32 ≡ k = omega (arith, lt) in
+        let lane : w % 32 ≡ laneOf l (i / 2) = omega (arith, lt) in
+        ap (λ (v : ℕ). bitOf 126 v (unplace (laneOf l (i / 2)) r)) (row-at 384 (arrived f) w (omega (arith, lt)) (arrived-lt f w))
+        ∙ arrived-bit f w (unplace (laneOf l (i / 2)) r) (unplace-lt (laneOf l (i / 2)) r hr)
+        ∙ ap₂ (λ (a b : ℕ). placedBit f a b (place b (unplace (laneOf l (i / 2)) r))) number lane
+        ∙ ap (placedBit f k (laneOf l (i / 2))) (place-unplace (laneOf l (i / 2)) r) ∙ placed r half e
+
+    go : Dec (i % 2 ≡ 0)
+        → bitOf 126 (wordAt (rowOf 384 (arrived f)) (32 * k + laneOf l (i / 2))) (unplace (laneOf l (i / 2)) (cond (eqb (i % 2) 0) (2 * (l % 63) + l % 2) (2 * (l % 63) + (l + 1) % 2)))
+        ≡ bitAt f (8 * payloadAt (504 * k + l) + i)
+    go (yes e) = rw (eq-eqb (i % 2) 0 e) (at (2 * (l % 63) + l % 2) (omega arith) (omega arith) (omega arith))
+    go (no e) = rw (ne-eqb (i % 2) 0 e) (at (2 * (l % 63) + (l + 1) % 2) (omega arith) (omega arith) (omega arith))
+
+-- a payload symbol is the frame's
+payload-words : (f : List ℕ) → Bytes f → (m : ℕ) → m < 6048 → payload (wordsOf f) m ≡ getD f (payloadAt m) 0
+unfolding payload
+payload-words f B m h =
+    let e : 504 * (m / 504) + m % 504 ≡ m = omega arith in
+    value-cong 2 8 _ _ (λ i l.
+    carried-words f (m / 504) (m % 504) i (omega arith) (omega arith) l ∙ ap (λ (a : ℕ). bitAt f (8 * payloadAt a + i)) e
+    ∙ bitAt-byte f (payloadAt m) i l)
+    ∙ number-bits 8 (getD f (payloadAt m) 0) (B .byte (payloadAt m))
+
+-- `frame_from_words` of `words_from_frame` gives such a frame back
+pub frame-words : (f : List ℕ) → Bytes f → length f ≡ 6144 → ((k : ℕ) → k < 96 → getD f (64 * k) 0 ≡ getD pilots k 0) → frameOf (wordsOf f) ≡ f
+unfolding frameOf symbolAt
+frame-words f B long P = sym (is-tabulate 0 f 6144 (symbolAt (wordsOf f)) long (λ t h. at t h (ℕ-discrete (t % 64) 0)))
+  where
+    at : (t : ℕ) → t < 6144 → Dec (t % 64 ≡ 0)
+        → getD f t 0 ≡ cond (eqb (t % 64) 0) (getD pilots (t / 64) 0) (payload (wordsOf f) (63 * (t / 64) + t % 64 - 1))
+    at t h (yes e) = let d : t ≡ 64 * (t / 64) = omega arith in rw (eq-eqb (t % 64) 0 e) (ap (λ (k : ℕ). getD f k 0) d ∙ P (t / 64) (omega arith))
+    at t h (no e) =
+        rw (ne-eqb (t % 64) 0 e)
+        (sym (payload-words f B (63 * (t / 64) + t % 64 - 1) (omega arith) ∙ ap (λ (k : ℕ). getD f k 0) (payload-back t e)))

@@ -1,27 +1,30 @@
 -- From words to symbols: a symbol's byte from the numbers of four lanes, and the frame of words that were turned.
 -- Assumes nothing.
-use mathlib.Core.Path.{_≡_, refl, sym, ap, ap₂, _∙_}
+use mathlib.Core.Path.{_≡_, refl, sym, ap, ap₂, _∙_, subst}
 use mathlib.Core.Bool.{cond}
 use mathlib.Core.List.{List}
-use Prim.Native.Nat.{ℕ, zero, suc, _+_, _-_, _*_, _/_, _%_, _^_, _<_}
-use native.Mathlib.Nat.{pow-suc, div-div-eq-div-mul}
+use Prim.Native.Nat.{ℕ, zero, suc, _+_, _-_, _*_, _/_, _%_, _^_, _<_, _≤_}
+use native.Mathlib.Nat.{pow-suc, div-div-eq-div-mul, add-mul-mod-self-right}
 use native.Mathlib.Decide.{ℕ-discrete, decLt}
 use native.Mathlib.Omega.{arith}
 use lib.Dec.{eqb, ltb}
-use lib.ListN.{getD}
+use lib.ListN.{getD, set}
+use lib.Pow.{pow-add}
 use borrow.Author.Tests.{eq-eqb, ne-eqb, lt-ltb, le-ltb}
 use Rattle.bits.specs.Bits.{tabulate, value, number, bitOf}
 use Rattle.bits.specs.Words.{wordAt, rowOf, halfOf}
 use Rattle.bits.proofs.Tabulate.{getD-tabulate, tabulate-cong}
+use Rattle.bits.proofs.Filling.{Filling, filling-turn, filling-at}
 use Rattle.bits.proofs.Value.{value-cong, value-lt, value-top, value-low, bit-lt, bit-number, number-bits}
 use Rattle.symbols.specs.Mapping.{unplace, laneOf, upper, lower}
 use Rattle.symbols.specs.Pilots.{pilots}
 use Rattle.symbols.specs.Frame.{carriedBit, payload, symbolAt, frameOf}
-use Rattle.symbols.specs.Tables.{back, turned, turnedRow, laneIn, mapped, IsMap, numberOf, quadAt, symbolFrom, rowBit, groupSymbol, mappedAt}
+use Rattle.symbols.specs.Tables.{back, turned, turnedRow, laneIn, tributaryIn, partOf, castOf, IsCast, numberOf, quadAt, symbolFrom, fourFrom, rowBit, groupSymbol, mappedAt}
+use Rattle.symbols.proofs.Entries.{mapped, parts-whole}
 
--- ---- the table
+-- ---- a symbol's number by its remainder, and the table
 
-pub lane-lt : (l t : ℕ) → laneIn l t < 4
+lane-lt : (l t : ℕ) → laneIn l t < 4
 unfolding laneIn
 lane-lt l t = omega arith
 
@@ -32,11 +35,45 @@ lane-mod l t =
     let e : 2 * l + l / 2 % 2 + t ≡ 2 * (l % 4) + l % 4 / 2 % 2 + t + 2 * (l / 4) * 4 = omega arith in
     omega arith
 
-pub mapped-at : (t : List ℕ) (l y : ℕ) → IsMap t → y < 256 → getD t (256 * (l % 4) + y) 0 ≡ mapped l y
+pub tributary-mod : (l r : ℕ) → tributaryIn (l % 4) r ≡ tributaryIn l r
+unfolding tributaryIn
+tributary-mod l r =
+    let p : l / 2 % 2 ≡ l % 4 / 2 % 2 = omega arith in
+    let e : r + 3 * (2 * l + l / 2 % 2) ≡ r + 3 * (2 * (l % 4) + l % 4 / 2 % 2) + 6 * (l / 4) * 4 = omega arith in
+    sym (ap (λ (n : ℕ). n % 4) e ∙ add-mul-mod-self-right (r + 3 * (2 * (l % 4) + l % 4 / 2 % 2)) (6 * (l / 4)) 4)
+
+mapped-mod : (l y : ℕ) → mapped (l % 4) y ≡ mapped l y
 unfolding mapped
-mapped-at t l y M h =
-    M .entry (l % 4) y (omega arith) h
-    ∙ value-cong 2 8 _ _ (λ i b. let e : (i + l % 4) % 2 ≡ (i + l) % 2 = omega arith in λ k. bitOf 8 y (2 * lane-mod l (i / 2) k + e k))
+mapped-mod l y = value-cong 2 8 _ _ (λ i b. let e : (i + l % 4) % 2 ≡ (i + l) % 2 = omega arith in λ k. bitOf 8 y (2 * lane-mod l (i / 2) k + e k))
+
+part-mod : (l r d : ℕ) → partOf (l % 4) r d ≡ partOf l r d
+unfolding partOf
+part-mod l r d =
+    let e : l % 4 % 2 ≡ l % 2 = omega arith in
+    let f : (l % 4 + 1) % 2 ≡ (l + 1) % 2 = omega arith in
+    λ k. (bitOf 2 d (e k) * 2 + bitOf 2 d (f k)) * 4 ^ (3 - tributary-mod l r k)
+
+part-at : (l x r d : ℕ) → partOf (l % 4 + x) r d ≡ partOf (l + x) r d
+part-at l x r d =
+    let e : (l % 4 + x) % 4 ≡ (l + x) % 4 = omega arith in
+    sym (part-mod (l % 4 + x) r d) ∙ ap (λ (m : ℕ). partOf m r d) e ∙ part-mod (l + x) r d
+
+pub cast-at : (t : List ℕ) (l r b : ℕ) → IsCast t → r < 4 → b < 256 → getD t (1024 * (l % 4) + 256 * r + b) 0 ≡ castOf l r b
+unfolding castOf
+cast-at t l r b C h c =
+    C .entry (l % 4) r b (omega arith) h c
+    ∙ λ k. part-mod l r (b / 64) k * 2 ^ 24 + part-at l 1 r (b / 16 % 4) k * 2 ^ 16 + part-at l 2 r (b / 4 % 4) k * 2 ^ 8 + part-at l 3 r (b % 4) k
+
+-- what four lanes put into a symbol's byte
+parts-sum : (l a b c d : ℕ) → a < 4 → b < 4 → c < 4 → d < 4 → partOf l 0 a + partOf l 1 b + partOf l 2 c + partOf l 3 d ≡ mapped l (a * 64 + b * 16 + c * 4 + d)
+parts-sum l a b c d ha hb hc hd =
+    let y = a * 64 + b * 16 + c * 4 + d in
+    let p : a ≡ y / 64 = omega arith in
+    let q : b ≡ y / 16 % 4 = omega arith in
+    let r : c ≡ y / 4 % 4 = omega arith in
+    let s : d ≡ y % 4 = omega arith in
+    (λ k. sym (part-mod l 0 (p k)) k + sym (part-mod l 1 (q k)) k + sym (part-mod l 2 (r k)) k + sym (part-mod l 3 (s k)) k)
+    ∙ parts-whole (l % 4) y (omega arith) (omega arith) ∙ mapped-mod l y
 
 -- ---- a symbol from four numbers
 
@@ -57,11 +94,11 @@ module _ (n i : ℕ) (w : ℕ → ℕ) where
   abbrev pairAt : ℕ → ℕ
   pairAt r = w r / 2 ^ (2 * (n - (i + 1))) % 4
 
-  pub pairs-law : i < n → pairAt 0 * 64 + pairAt 1 * 16 + pairAt 2 * 4 + pairAt 3 ≡ number 8 pairBit
+  pairs-law : i < n → pairAt 0 * 64 + pairAt 1 * 16 + pairAt 2 * 4 + pairAt 3 ≡ number 8 pairBit
   unfolding value
   pairs-law h = omega (arith, pair-bits n (w 0) i h, pair-bits n (w 1) i h, pair-bits n (w 2) i h, pair-bits n (w 3) i h)
 
-  pub symbol-law : (l y : ℕ) → i < n → y ≡ pairAt 0 * 64 + pairAt 1 * 16 + pairAt 2 * 4 + pairAt 3 → mapped (l + i) y ≡ symbolFrom n l w i
+  symbol-law : (l y : ℕ) → i < n → y ≡ pairAt 0 * 64 + pairAt 1 * 16 + pairAt 2 * 4 + pairAt 3 → mapped (l + i) y ≡ symbolFrom n l w i
   unfolding mapped symbolFrom
   symbol-law l y h e =
       value-cong 2 8 _ _ (λ k b. at (laneIn (l + i) (k / 2)) ((k + (l + i)) % 2) (lane-lt (l + i) (k / 2)) (omega arith))
@@ -74,7 +111,110 @@ module _ (n i : ℕ) (w : ℕ → ℕ) where
           ∙ bit-number 8 pairBit (λ k _. bit-lt (2 * n) (w (k / 2)) (2 * i + k % 2)) (2 * r + u) (omega arith)
           ∙ ap₂ (λ (a b : ℕ). bitOf (2 * n) (w a) (2 * i + b)) d m
 
+-- ---- four symbols side by side
+
+symbol-lt : (n l : ℕ) (w : ℕ → ℕ) (i : ℕ) → symbolFrom n l w i < 256
+unfolding symbolFrom
+symbol-lt n l w i = value-lt 2 8 _ (λ k _. bit-lt (2 * n) _ _)
+
+record Digits (m l : ℕ) (w : ℕ → ℕ) (v : ℕ) : Type 0 where
+  pub first : v / 16777216 % 256 ≡ symbolFrom (m + 4) l w 0
+  pub second : v / 65536 % 256 ≡ symbolFrom (m + 4) l w 1
+  pub third : v / 256 % 256 ≡ symbolFrom (m + 4) l w 2
+  pub fourth : v % 256 ≡ symbolFrom (m + 4) l w 3
+
+digits : (m l : ℕ) (w : ℕ → ℕ) (v : ℕ) → v ≡ fourFrom m l w → Digits m l w v
+unfolding fourFrom
+digits m l w v e =
+    let a = symbol-lt (m + 4) l w 0 in
+    let b = symbol-lt (m + 4) l w 1 in
+    let c = symbol-lt (m + 4) l w 2 in
+    let d = symbol-lt (m + 4) l w 3 in
+    record { first = omega arith; second = omega arith; third = omega arith; fourth = omega arith }
+
+shift-more : (a k j : ℕ) → a / 2 ^ (k + j) ≡ a / 2 ^ k / 2 ^ j
+shift-more a k j = rw (pow-add 2 k j, ← div-div-eq-div-mul)
+
+-- the four pairs above the m low ones, as those of a byte
+module _ (a m : ℕ) where
+  pair-0 : a / 2 ^ (2 * (m + 4 - (0 + 1))) % 4 ≡ a / 2 ^ (2 * m) % 256 / 64
+  pair-0 = let e : 2 * (m + 4 - (0 + 1)) ≡ 2 * m + 6 = omega arith in rw (e, shift-more a (2 * m) 6) (omega arith)
+
+  pair-1 : a / 2 ^ (2 * (m + 4 - (1 + 1))) % 4 ≡ a / 2 ^ (2 * m) % 256 / 16 % 4
+  pair-1 = let e : 2 * (m + 4 - (1 + 1)) ≡ 2 * m + 4 = omega arith in rw (e, shift-more a (2 * m) 4) (omega arith)
+
+  pair-2 : a / 2 ^ (2 * (m + 4 - (2 + 1))) % 4 ≡ a / 2 ^ (2 * m) % 256 / 4 % 4
+  pair-2 = let e : 2 * (m + 4 - (2 + 1)) ≡ 2 * m + 2 = omega arith in rw (e, shift-more a (2 * m) 2) (omega arith)
+
+  pair-3 : a / 2 ^ (2 * (m + 4 - (3 + 1))) % 4 ≡ a / 2 ^ (2 * m) % 256 % 4
+  pair-3 = let e : 2 * (m + 4 - (3 + 1)) ≡ 2 * m = omega arith in rw e (omega arith)
+
+module _ (m l : ℕ) (w : ℕ → ℕ) where
+  abbrev byteOf : ℕ → ℕ
+  byteOf r = w r / 2 ^ (2 * m) % 256
+
+  -- what the four lanes put into symbol x
+  column : (x : ℕ) (d : ℕ → ℕ) → x < 4 → ((r : ℕ) → d r < 4) → ((r : ℕ) → w r / 2 ^ (2 * (m + 4 - (x + 1))) % 4 ≡ d r)
+      → partOf (l + x) 0 (d 0) + partOf (l + x) 1 (d 1) + partOf (l + x) 2 (d 2) + partOf (l + x) 3 (d 3) ≡ symbolFrom (m + 4) l w x
+  column x d h small e =
+      parts-sum (l + x) (d 0) (d 1) (d 2) (d 3) (small 0) (small 1) (small 2) (small 3)
+      ∙ symbol-law (m + 4) x w l _ (omega arith) (λ k. sym (e 0) k * 64 + sym (e 1) k * 16 + sym (e 2) k * 4 + sym (e 3) k)
+
+  pub four-law : castOf l 0 (byteOf 0) + castOf l 1 (byteOf 1) + castOf l 2 (byteOf 2) + castOf l 3 (byteOf 3) ≡ fourFrom m l w
+  unfolding castOf fourFrom
+  four-law =
+      let z : l + 0 ≡ l = omega arith in
+      let c0 = column 0 (λ r. byteOf r / 64) (omega arith) (λ r. omega arith) (λ r. pair-0 (w r) m) in
+      let s0 : partOf l 0 (byteOf 0 / 64) + partOf l 1 (byteOf 1 / 64) + partOf l 2 (byteOf 2 / 64) + partOf l 3 (byteOf 3 / 64) ≡ symbolFrom (m + 4) l w 0 =
+      (λ k. partOf (sym z k) 0 (byteOf 0 / 64) + partOf (sym z k) 1 (byteOf 1 / 64) + partOf (sym z k) 2 (byteOf 2 / 64) + partOf (sym z k) 3 (byteOf 3 / 64)) ∙ c0 in
+      let s1 = column 1 (λ r. byteOf r / 16 % 4) (omega arith) (λ r. omega arith) (λ r. pair-1 (w r) m) in
+      let s2 = column 2 (λ r. byteOf r / 4 % 4) (omega arith) (λ r. omega arith) (λ r. pair-2 (w r) m) in
+      let s3 = column 3 (λ r. byteOf r % 4) (omega arith) (λ r. omega arith) (λ r. pair-3 (w r) m) in
+      omega (arith, s0, s1, s2, s3)
+
+-- a symbol further on
+symbol-on : (n l i : ℕ) (w : ℕ → ℕ) (x : ℕ) → x < n → symbolFrom n (l + i) w x ≡ symbolFrom (n + i) l w (i + x)
+unfolding symbolFrom bitOf
+symbol-on n l i w x h =
+    let e : l + i + x ≡ l + (i + x) = omega arith in
+    value-cong 2 8 _ _ (λ k b.
+    (λ t. bitOf (2 * n) (w (laneIn (e t) (k / 2))) (2 * x + (k + e t) % 2))
+    ∙ (let d : 2 * n - 1 - (2 * x + (k + (l + (i + x))) % 2) ≡ 2 * (n + i) - 1 - (2 * (i + x) + (k + (l + (i + x))) % 2) = omega arith in
+    ap (λ (y : ℕ). w (laneIn (l + (i + x)) (k / 2)) / 2 ^ y % 2) d))
+
+-- a turn that stores four symbols
+pub fill-turn : (n l : ℕ) (w : ℕ → ℕ) {out₀ out : List ℕ} (i v : ℕ) → i + 4 ≤ n → v ≡ fourFrom (n - (i + 4)) (l + i) w
+    → Filling (symbolFrom n l w) n out₀ out i
+    → Filling (symbolFrom n l w) n out₀
+    (set (set (set (set out i (v / 16777216 % 256)) (i + 1) (v / 65536 % 256)) (i + 2) (v / 256 % 256)) (i + 3) (v % 256)) (i + 4)
+fill-turn n l w {out₀} {out} i v h e F =
+    let z : i + 3 + 1 ≡ i + 4 = omega arith in
+    subst (Filling (symbolFrom n l w) n out₀ _) z
+    (filling-at f (i + 3) (v % 256) (omega arith)
+    (filling-at f (i + 2) (v / 256 % 256) (omega arith)
+    (filling-turn f (v / 65536 % 256)
+    (filling-turn f (v / 16777216 % 256) F (omega arith) (D .first ∙ on 0 (omega arith) ∙ ap f (let y : i + 0 ≡ i = omega arith in y)))
+    (omega arith) (D .second ∙ on 1 (omega arith)))
+    (omega arith) (D .third ∙ on 2 (omega arith)))
+    (omega arith) (D .fourth ∙ on 3 (omega arith)))
+  where
+    f : ℕ → ℕ
+    f = symbolFrom n l w
+
+    D : Digits (n - (i + 4)) (l + i) w v
+    D = digits (n - (i + 4)) (l + i) w v e
+
+    on : (x : ℕ) → x < 4 → symbolFrom (n - (i + 4) + 4) (l + i) w x ≡ symbolFrom n l w (i + x)
+    on x b =
+        let m : n - (i + 4) + 4 + i ≡ n = omega arith in
+        symbol-on (n - (i + 4) + 4) l i w x (omega arith) ∙ ap (λ (k : ℕ). symbolFrom k l w (i + x)) m
+
 -- ---- 64 symbols of a frame
+
+-- a bit of 62 as one of 64
+further : (j u : ℕ) → j < 31 → u < 2 → (v : ℕ) → bitOf 64 v (2 * (1 + j) + u) ≡ bitOf 62 v (2 * j + u)
+unfolding bitOf
+further j u h l v = let d : 63 - (2 * (1 + j) + u) ≡ 61 - (2 * j + u) = omega arith in ap (λ (y : ℕ). v / 2 ^ y % 2) d
 
 quad-number : (s : List ℕ) (o r : ℕ) → r < 4 → numberOf (quadAt s o) r ≡ getD s (o + 2 * r) 0
 unfolding quadAt
@@ -85,7 +225,7 @@ quad-number s o (suc (suc (suc zero))) h = refl
 quad-number s o (suc (suc (suc (suc r)))) h = absurd (omega arith)
 
 module _ (s : List ℕ) (g : ℕ) where
-  pub pilot-is : getD pilots g 0 ≡ mappedAt s (g * 64)
+  pilot-is : getD pilots g 0 ≡ mappedAt s (g * 64)
   unfolding mappedAt
   pilot-is =
       let m : g * 64 % 64 ≡ 0 = omega arith in
@@ -100,15 +240,53 @@ module _ (s : List ℕ) (g : ℕ) where
       let e : j ≡ (g * 64 + 1 + j) % 64 - 1 = omega arith in
       rw (ne-eqb ((g * 64 + 1 + j) % 64) 0 n) (ap₂ (groupSymbol s) d e)
 
-  pub upper-is : (k : ℕ) → k < 31 → symbolFrom 31 (g % 8 * 63) (numberOf (quadAt s (g * 8))) k ≡ mappedAt s (g * 64 + 1 + k)
+  -- symbol j of the 63, as the one behind it of 32 of which the first is the pilot's
+  upper-is : (j : ℕ) → j < 31 → symbolFrom 32 (g % 8 * 63 + 3) (numberOf (quadAt s (g * 8))) (1 + j) ≡ mappedAt s (g * 64 + 1 + j)
   unfolding symbolFrom groupSymbol rowBit
-  upper-is k h = value-cong 2 8 _ _ (λ i b. at (laneIn (g % 8 * 63 + k) (i / 2)) (2 * k + (i + (g % 8 * 63 + k)) % 2) (lane-lt (g % 8 * 63 + k) (i / 2)) (omega arith)) ∙ at-group k (omega arith)
+  upper-is j h =
+      value-cong 2 8 _ _ (λ i b.
+      let u : (i + (g % 8 * 63 + 3 + (1 + j))) % 2 ≡ (i + (g % 8 * 63 + j)) % 2 = omega arith in
+      (λ k. bitOf 64 (numberOf (quadAt s (g * 8)) (lane (i / 2) k)) (2 * (1 + j) + u k))
+      ∙ at (laneIn (g % 8 * 63 + j) (i / 2)) ((i + (g % 8 * 63 + j)) % 2) (lane-lt (g % 8 * 63 + j) (i / 2)) (omega arith))
+      ∙ at-group j (omega arith)
     where
-      at : (r p : ℕ) → r < 4 → p < 62
-          → bitOf 62 (numberOf (quadAt s (g * 8)) r) p ≡ cond (ltb p 62) (bitOf 62 (getD s (2 * (4 * g + r)) 0) p) (bitOf 64 (getD s (2 * (4 * g + r) + 1) 0) (p - 62))
-      at r p hr hp =
+      lane : (t : ℕ) → laneIn (g % 8 * 63 + 3 + (1 + j)) t ≡ laneIn (g % 8 * 63 + j) t
+      lane t =
+          let e : (g % 8 * 63 + 3 + (1 + j)) % 4 ≡ (g % 8 * 63 + j) % 4 = omega arith in
+          sym (lane-mod (g % 8 * 63 + 3 + (1 + j)) t) ∙ ap (λ (l : ℕ). laneIn l t) e ∙ lane-mod (g % 8 * 63 + j) t
+
+      at : (r u : ℕ) → r < 4 → u < 2
+          → bitOf 64 (numberOf (quadAt s (g * 8)) r) (2 * (1 + j) + u)
+          ≡ cond (ltb (2 * j + u) 62) (bitOf 62 (getD s (2 * (4 * g + r)) 0) (2 * j + u)) (bitOf 64 (getD s (2 * (4 * g + r) + 1) 0) (2 * j + u - 62))
+      at r u hr hu =
           let e : g * 8 + 2 * r ≡ 2 * (4 * g + r) = omega arith in
-          rw (lt-ltb p 62 hp) (ap (λ (v : ℕ). bitOf 62 v p) (quad-number s (g * 8) r hr ∙ ap (λ (x : ℕ). getD s x 0) e))
+          rw (lt-ltb (2 * j + u) 62 (omega arith))
+          (further j u h hu (numberOf (quadAt s (g * 8)) r) ∙ ap (λ (v : ℕ). bitOf 62 v (2 * j + u)) (quad-number s (g * 8) r hr ∙ ap (λ (x : ℕ). getD s x 0) e))
+
+  -- the first four symbols: the pilot, and three behind it
+  pub head-turn : {out₀ out : List ℕ} (x v : ℕ) → g < 96 → x ≡ getD pilots g 0 → v ≡ fourFrom 28 (g % 8 * 63 + 3) (numberOf (quadAt s (g * 8)))
+      → Filling (mappedAt s) 6144 out₀ out (g * 64)
+      → Filling (mappedAt s) 6144 out₀
+      (set (set (set (set out (g * 64) x) (g * 64 + 1) (v / 65536 % 256)) (g * 64 + 2) (v / 256 % 256)) (g * 64 + 3) (v % 256)) (g * 64 + 4)
+  head-turn {out₀} {out} x v h p e F =
+      let D = digits 28 (g % 8 * 63 + 3) (numberOf (quadAt s (g * 8))) v e in
+      let z : g * 64 + 3 + 1 ≡ g * 64 + 4 = omega arith in
+      let f = mappedAt s in
+      subst (Filling (mappedAt s) 6144 out₀ _) z
+      (filling-at f (g * 64 + 3) (v % 256) (omega arith)
+      (filling-at f (g * 64 + 2) (v / 256 % 256) (omega arith)
+      (filling-turn f (v / 65536 % 256) (filling-turn f x F (omega arith) (p ∙ pilot-is))
+      (omega arith) (D .second ∙ upper-is 0 (omega arith) ∙ ap f (let y : g * 64 + 1 + 0 ≡ g * 64 + 1 = omega arith in y)))
+      (omega arith) (D .third ∙ upper-is 1 (omega arith) ∙ ap f (let y : g * 64 + 1 + 1 ≡ g * 64 + 2 = omega arith in y)))
+      (omega arith) (D .fourth ∙ upper-is 2 (omega arith) ∙ ap f (let y : g * 64 + 1 + 2 ≡ g * 64 + 3 = omega arith in y)))
+
+  -- and those behind them
+  pub rest-is : (k : ℕ) → k < 28 → symbolFrom 28 (g % 8 * 63 + 3 + 4) (numberOf (quadAt s (g * 8))) k ≡ mappedAt s (g * 64 + 4 + k)
+  rest-is k h =
+      let e : 4 + k ≡ 1 + (3 + k) = omega arith in
+      let d : g * 64 + 1 + (3 + k) ≡ g * 64 + 4 + k = omega arith in
+      symbol-on 28 (g % 8 * 63 + 3) 4 (numberOf (quadAt s (g * 8))) k h
+      ∙ ap (symbolFrom 32 (g % 8 * 63 + 3) (numberOf (quadAt s (g * 8)))) e ∙ upper-is (3 + k) (omega arith) ∙ ap (mappedAt s) d
 
   pub lower-is : (k : ℕ) → k < 32 → symbolFrom 32 (g % 8 * 63 + 31) (numberOf (quadAt s (g * 8 + 1))) k ≡ mappedAt s (g * 64 + 32 + k)
   unfolding symbolFrom groupSymbol rowBit
@@ -161,11 +339,11 @@ row-bit n F i r h l b = go (decLt r 62)
         let e : 62 + (r - 62) ≡ r = omega arith in
         rw (le-ltb r 62 (omega arith), lo) (bit-number 64 (λ k. f (62 + k)) (λ k _. bit-lt 126 (F i) (62 + k)) (r - 62) (omega arith) ∙ ap f e)
 
-pub turned-lt-126 : (n w : ℕ) → turned n w < 2 ^ 126
+turned-lt-126 : (n w : ℕ) → turned n w < 2 ^ 126
 unfolding turned
 turned-lt-126 n w = value-lt 2 126 _ (λ r _. bit-lt 126 w (back n r))
 
-pub turned-bit : (n w r : ℕ) → r < 126 → bitOf 126 (turned n w) r ≡ bitOf 126 w (back n r)
+turned-bit : (n w r : ℕ) → r < 126 → bitOf 126 (turned n w) r ≡ bitOf 126 w (back n r)
 unfolding turned
 turned-bit n w r h = bit-number 126 _ (λ q _. bit-lt 126 w (back n q)) r h
 

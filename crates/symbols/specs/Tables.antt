@@ -33,16 +33,27 @@ turnedFirst n x y = cond (ltb n 55) (crossed n y x) (crossed (n - 55) x y)
 unfoldable pub turnedRow : ℕ → List ℕ → List ℕ
 turnedRow m s = rowOf 384 (λ i. turned (m * (i % 32) % 110) (wordAt s i))
 
--- of the four lanes that symbol l carries, the one that tributary t has; and the tributary that has lane r of the four
+-- of the four lanes that symbol l carries, the one that tributary t has
 unfoldable pub laneIn : ℕ → ℕ → ℕ
 laneIn l t = (2 * l + l / 2 % 2 + t) % 4
 
+-- the tributary that has lane r of the four
 unfoldable pub tributaryIn : ℕ → ℕ → ℕ
 tributaryIn l r = (r + 3 * (2 * l + l / 2 % 2)) % 4
 
--- symbol l's byte, from the byte y of four pairs of bits in the lanes' order
-unfoldable pub mapped : ℕ → ℕ → ℕ
-mapped l y = number 8 (λ i. bitOf 8 y (2 * laneIn l (i / 2) + (i + l) % 2))
+-- ---- the tables
+
+-- what lane r, of the four, puts into symbol l's byte with its pair of bits d
+unfoldable pub partOf : ℕ → ℕ → ℕ → ℕ
+partOf l r d = (bitOf 2 d (l % 2) * 2 + bitOf 2 d ((l + 1) % 2)) * 4 ^ (3 - tributaryIn l r)
+
+-- what it puts into the bytes of symbols l to l + 3 with the four pairs of a byte b
+unfoldable pub castOf : ℕ → ℕ → ℕ → ℕ
+castOf l r b = partOf l r (b / 64) * 2 ^ 24 + partOf (l + 1) r (b / 16 % 4) * 2 ^ 16 + partOf (l + 2) r (b / 4 % 4) * 2 ^ 8 + partOf (l + 3) r (b % 4)
+
+-- the table of `castOf`: 256 entries for each remainder of a symbol's number by 4 and each lane of the four
+pub record IsCast (t : List ℕ) : Type 0 where
+  pub entry : (l r b : ℕ) → l < 4 → r < 4 → b < 256 → getD t (1024 * l + 256 * r + b) 0 ≡ castOf l r b
 
 -- the pair of bits of lane r, of the four, in symbol l's byte x
 unfoldable pub pairOf : ℕ → ℕ → ℕ → ℕ
@@ -52,15 +63,13 @@ pairOf l r x = bitOf 8 x (2 * tributaryIn l r + l % 2) * 2 + bitOf 8 x (2 * trib
 unfoldable pub spreadOf : ℕ → ℕ → ℕ
 spreadOf l x = pairOf l 0 x * 2 ^ 48 + pairOf l 1 x * 2 ^ 32 + pairOf l 2 x * 2 ^ 16 + pairOf l 3 x
 
--- the table of `mapped`, and that of `spreadOf`: 256 entries for each remainder of a symbol's number by 4
-pub record IsMap (t : List ℕ) : Type 0 where
-  pub entry : (l x : ℕ) → l < 4 → x < 256 → getD t (256 * l + x) 0 ≡ mapped l x
-
+-- the table of `spreadOf`: 256 entries for each remainder of a symbol's number by 4
 pub record IsSpread (t : List ℕ) : Type 0 where
   pub entry : (l x : ℕ) → l < 4 → x < 256 → getD t (256 * l + x) 0 ≡ spreadOf l x
 
 -- ---- four lanes' numbers
 
+-- that of lane r
 abbrev pub numberOf : Quad → ℕ → ℕ
 numberOf q zero = q .a
 numberOf q (suc zero) = q .b
@@ -71,9 +80,14 @@ numberOf q (suc (suc (suc r))) = q .d
 unfoldable pub quadAt : List ℕ → ℕ → Quad
 quadAt s o = record { a = getD s o 0; b = getD s (o + 2) 0; c = getD s (o + 4) 0; d = getD s (o + 6) 0 }
 
--- symbol i of the n, from number l on, that four numbers of n pairs make
+-- symbol i of n, the first of which is number l, that the n low pairs of four numbers make
 unfoldable pub symbolFrom : ℕ → ℕ → (ℕ → ℕ) → ℕ → ℕ
 symbolFrom n l w i = number 8 (λ k. bitOf (2 * n) (w (laneIn (l + i) (k / 2))) (2 * i + (k + (l + i)) % 2))
+
+-- symbols 0 to 3 of the m + 4, side by side
+unfoldable pub fourFrom : ℕ → ℕ → (ℕ → ℕ) → ℕ
+fourFrom m l w =
+    symbolFrom (m + 4) l w 0 * 2 ^ 24 + symbolFrom (m + 4) l w 1 * 2 ^ 16 + symbolFrom (m + 4) l w 2 * 2 ^ 8 + symbolFrom (m + 4) l w 3
 
 -- bit r of word i of a row
 unfoldable pub rowBit : List ℕ → ℕ → ℕ → ℕ
@@ -93,6 +107,7 @@ mappedAt s t = cond (eqb (t % 64) 0) (getD pilots (t / 64) 0) (groupSymbol s (t 
 unfoldable pub gathered : ℕ → ℕ → List ℕ → ℕ → ℕ
 gathered n l s r = value 4 n (λ i. pairOf (l + i) r (getD s i 0))
 
+-- the numbers of the four lanes
 unfoldable pub quadOf : ℕ → ℕ → List ℕ → Quad
 quadOf n l s = record { a = gathered n l s 0; b = gathered n l s 1; c = gathered n l s 2; d = gathered n l s 3 }
 
@@ -121,9 +136,10 @@ joined q v =
 unfoldable pub masked : Quad → Quad
 masked q = record { a = q .a % 2 ^ 62; b = q .b % 2 ^ 62; c = q .c % 2 ^ 62; d = q .d % 2 ^ 62 }
 
--- word i of a frame with its bits at their places, and the row of such words
+-- word i of a frame with its bits at their places
 abbrev pub placedWord : List ℕ → ℕ → ℕ
 placedWord f i = number 126 (placedBit f (i / 32) (i % 32))
 
+-- and the row of such words
 unfoldable pub placedRow : List ℕ → List ℕ
 placedRow f = rowOf 384 (placedWord f)

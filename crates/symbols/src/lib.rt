@@ -8,7 +8,7 @@ ghost use Rattle.bits.specs.Bits.{tabulate};
 ghost use Rattle.symbols.specs.Levels.{levelOf, labelOf};
 ghost use Rattle.symbols.specs.Pilots.{pilots, met, locks};
 ghost use Rattle.symbols.specs.Frame.{frameOf, wordsOf};
-ghost use Rattle.symbols.specs.Tables.{IsMap, IsSpread, Room, crossed, turnedFirst, turned, turnedRow, mapped, spreadOf, numberOf, quadAt, symbolFrom, mappedAt, quadOf, fieldsOf, joined, masked, placedRow};
+ghost use Rattle.symbols.specs.Tables.{IsCast, IsSpread, Room, crossed, turnedFirst, turned, turnedRow, castOf, spreadOf, numberOf, quadAt, symbolFrom, fourFrom, mappedAt, quadOf, fieldsOf, joined, masked, placedRow};
 
 mod tables;
 
@@ -176,38 +176,52 @@ fn turn_words(words: &[u64], places: usize, out: &mut [u64])
     }
 }
 
-// The byte of symbol l, from the byte of four lanes' pairs of bits in the lanes' order.
-fn byte_of(t: &[u8; 1024], y: u64, l: usize) -> u8
-    requires { ⌜ IsMap (now t) ⌝ }
-    requires { ⌜ y < 256 ⌝ }
-    ensures { λ r. ⌜ r ≡ mapped l y ⌝ }
+// A number of 32 bits as one of 64.
+fn wide32(x: u32) -> u64
+    ensures { λ r. ⌜ (r ≡ x) × (r < 2 ^ 32) ⌝ }
 {
-    let k = 256 * (l % 4) + (y as usize);
-    t[k]
+    x as u64
 }
 
-// Symbol i of n, the first of which is number l, from four numbers of n pairs of bits.
-fn symbol(t: &[u8; 1024], q: Quad, n: usize, l: usize, i: usize) -> u8
-    requires { ⌜ IsMap (now t) ⌝ }
-    requires { ⌜ (n ≤ 32) × ((l < 65536) × (i < n)) ⌝ }
-    ensures { λ r. ⌜ r ≡ symbolFrom n l (numberOf q) i ⌝ }
+// What lane r, of four, puts into the bytes of four symbols, of which the first is number l, with the four low pairs of bits of x.
+fn cast(t: &[u32; 4096], l: usize, r: usize, x: u64) -> u64
+    requires { ⌜ IsCast (now t) ⌝ }
+    requires { ⌜ r < 4 ⌝ }
+    ensures { λ v. ⌜ (v ≡ castOf l r (x % 256)) × (v < 2 ^ 32) ⌝ }
 {
-    let k = (2 * (n - (i + 1))) as u64;
-    let y = (q.a >> k) % 4 * 64 + (q.b >> k) % 4 * 16 + (q.c >> k) % 4 * 4 + (q.d >> k) % 4;
-    byte_of(t, y, l + i)
+    let k = 1024 * (l % 4) + 256 * r + ((x % 256) as usize);
+    wide32(t[k])
 }
 
-// As many symbols as there is room for, from number l on.
-fn fill(t: &[u8; 1024], q: Quad, l: usize, out: &mut [u8])
-    requires { ⌜ IsMap (now t) ⌝ }
-    requires { ⌜ (length (now out) ≤ 32) × (l < 65536) ⌝ }
+// Four symbols side by side, of which the first is number l: from the four pairs of bits of each number above its m low ones.
+fn four(t: &[u32; 4096], q: Quad, m: usize, l: usize) -> u64
+    requires { ⌜ IsCast (now t) ⌝ }
+    requires { ⌜ m ≤ 28 ⌝ }
+    ensures { λ v. ⌜ v ≡ fourFrom m l (numberOf q) ⌝ }
+{
+    let k = (2 * m) as u64;
+    let a = cast(t, l, 0, q.a >> k);
+    let b = cast(t, l, 1, q.b >> k);
+    let c = cast(t, l, 2, q.c >> k);
+    let d = cast(t, l, 3, q.d >> k);
+    a + b + c + d
+}
+
+// Four symbols at a time as many as there is room for, of which the first is number l.
+fn fill(t: &[u32; 4096], q: Quad, l: usize, out: &mut [u8])
+    requires { ⌜ IsCast (now t) ⌝ }
+    requires { ⌜ (length (now out) ≤ 32) × ((length (now out) % 4 ≡ 0) × (l < 65536)) ⌝ }
     ensures { λ _. ⌜ now (out .exit) ≡ tabulate (length (now (out .entry))) (symbolFrom (length (now (out .entry))) l (numberOf q)) ⌝ }
 {
     let n = out.len();
     let mut i: usize = 0;
     while i < n {
-        out[i] = symbol(t, q, n, l, i);
-        i += 1;
+        let v = four(t, q, n - (i + 4), l + i);
+        out[i] = (v / 16777216 % 256) as u8;
+        out[i + 1] = (v / 65536 % 256) as u8;
+        out[i + 2] = (v / 256 % 256) as u8;
+        out[i + 3] = (v % 256) as u8;
+        i += 4;
     }
 }
 
@@ -224,8 +238,8 @@ fn quad_at(s: &[u64], o: usize) -> Quad
 }
 
 // The frame of words whose bits stand at their places: a pilot, and 63 symbols of four words.
-fn map_words(t: &[u8; 1024], p: &[u8; 96], words: &[u64], frame: &mut [u8])
-    requires { ⌜ IsMap (now t) ⌝ }
+fn map_words(t: &[u32; 4096], p: &[u8; 96], words: &[u64], frame: &mut [u8])
+    requires { ⌜ IsCast (now t) ⌝ }
     requires { ⌜ now p ≡ pilots ⌝ }
     requires { ⌜ (length (now words) ≡ 768) × (length (now frame) ≡ 6144) ⌝ }
     ensures { λ _. ⌜ now (frame .exit) ≡ tabulate 6144 (mappedAt (now (words .entry))) ⌝ }
@@ -236,11 +250,15 @@ fn map_words(t: &[u8; 1024], p: &[u8; 96], words: &[u64], frame: &mut [u8])
         let upper = quad_at(words, g * 8);
         let lower = quad_at(words, g * 8 + 1);
         let a = g * 64;
-        let b = g * 64 + 1;
+        let b = g * 64 + 4;
         let m = g * 64 + 32;
         let e = g * 64 + 64;
+        let v = four(t, upper, 28, l + 3);
         frame[a] = p[g];
-        fill(t, upper, l, &mut frame[b..m]);
+        frame[a + 1] = (v / 65536 % 256) as u8;
+        frame[a + 2] = (v / 256 % 256) as u8;
+        frame[a + 3] = (v % 256) as u8;
+        fill(t, upper, l + 3 + 4, &mut frame[b..m]);
         fill(t, lower, l + 31, &mut frame[m..e]);
         g += 1;
     }
@@ -250,7 +268,7 @@ fn map_words(t: &[u8; 1024], p: &[u8; 96], words: &[u64], frame: &mut [u8])
 pub fn frame_from_words(words: &[u64; 768], frame: &mut [u8; 6144])
     ensures { λ _. ⌜ now (frame .exit) ≡ frameOf (now (words .entry)) ⌝ }
 {
-    let t = tables::MAP;
+    let t = tables::CAST;
     let p = tables::PILOTS;
     let mut placed = [0u64; 768];
     turn_words(words, 20, &mut placed);

@@ -1,7 +1,7 @@
 -- `symbols::frame_from_words` meets its contract: the words are turned, and then mapped. Assumes nothing.
 use mathlib.Core.Path.{refl, _∙_}
 use Rattle.symbols.specs.Pilots.{pilots}
-use Rattle.symbols.proofs.Entries.{is-map}
+use Rattle.symbols.proofs.Entries.{is-cast}
 use Rattle.symbols.proofs.Symbols.{frame-is}
 use borrow.Author.Needs.{needs}
 use Rattle.symbols.proofs.frame_from_words.Statement.{statement}
@@ -18,7 +18,7 @@ slice-aggregate-map-words c = search needs
 
 map-words-requires : tie.Need-map-words-requires
 unfolding pilots
-map-words-requires c κs = (is-map, (refl, search needs))
+map-words-requires c κs = (is-cast, (refl, search needs))
 
 returns : tie.Need-returns
 returns c = c .map-words .ensures ∙ frame-is _ _ (c .before .before .before .before .before .before .turn-words .ensures)

@@ -1,12 +1,14 @@
--- `symbols::map_words` meets its contract: the 64 symbols of each group before group g are there; a turn is a pilot, 31 symbols and 32. Assumes nothing.
+-- `symbols::map_words` meets its contract: the 64 symbols of each group before group g are there; a turn is the pilot and 3 symbols, 28 and 32. Assumes
+-- nothing.
 use mathlib.Core.Path.{_≡_, ap, _∙_, subst}
 use mathlib.Core.List.{List, _++_}
-use Prim.Native.Nat.{ℕ, _+_, _*_, _-_, _%_}
+use Prim.Native.Nat.{ℕ, _+_, _*_, _-_, _/_, _%_}
 use native.Mathlib.Omega.{arith}
 use lib.ListN.{getD, set, take, drop, length-set, length-take, length-drop}
-use Rattle.bits.proofs.Filling.{Filling, filling-start, filling-turn, filling-put, filling-done}
-use Rattle.symbols.specs.Tables.{numberOf, symbolFrom, mappedAt}
-use Rattle.symbols.proofs.Symbols.{pilot-is, upper-is, lower-is}
+use Rattle.bits.proofs.Filling.{Filling, filling-start, filling-put, filling-done}
+use Rattle.symbols.specs.declared.Quad.{Quad}
+use Rattle.symbols.specs.Tables.{numberOf, symbolFrom, fourFrom, mappedAt}
+use Rattle.symbols.proofs.Symbols.{head-turn, rest-is, lower-is}
 use Rattle.symbols.proofs.map_words.Statement.{statement}
 use Rattle.symbols.proofs.map_words.Tie as tie
 
@@ -23,33 +25,39 @@ wordsAt a = a .before .before .before .args .words .now
 abbrev frameAt : tie.At-loop Inv-loop μ-loop → List ℕ
 frameAt a = a .before .before .before .args .frame .now
 
--- after the pilot's store
-abbrev Out1 : tie.At-loop Inv-loop μ-loop → List ℕ
-Out1 a = set (a .loop .frame) (a .loop .g * 64) (getD (a .before .before .before .args .p .now) (a .loop .g) 0)
+-- after the pilot and three symbols
+abbrev Out1 : tie.After-frame Inv-loop μ-loop → List ℕ
+Out1 c =
+    let a = c .before .before .before .before .before in
+    let g = a .loop .g in
+    let v = c .before .four .result in
+    set (set (set (set (a .loop .frame) (g * 64) (getD (a .before .before .before .args .p .now) g 0)) (g * 64 + 1) (v / 65536 % 256)) (g * 64 + 2) (v / 256 % 256)) (g * 64 + 3) (v % 256)
 
-one : (c : tie.In-loop Inv-loop μ-loop) → Filling (mappedAt (wordsAt (c .before))) 6144 (frameAt (c .before)) (Out1 (c .before)) (c .before .loop .g * 64 + 1)
+one : (c : tie.After-frame Inv-loop μ-loop)
+    → Filling (mappedAt (wordsAt (c .before .before .before .before .before))) 6144 (frameAt (c .before .before .before .before .before)) (Out1 c) (c .before .before .before .before .before .loop .g * 64 + 4)
 one c =
-    let g = c .before .loop .g in
-    filling-turn (mappedAt (wordsAt (c .before))) _ (c .before .loop .inv) (omega arith)
-    (ap (λ (l : List ℕ). getD l g 0) (c .before .before .before .before .pre .1 .0) ∙ pilot-is (wordsAt (c .before)) g)
+    let a = c .before .before .before .before .before in
+    let g = a .loop .g in
+    head-turn (wordsAt a) g _ _ (c .before .before .before .before .loop-test .taken) (ap (λ (l : List ℕ). getD l g 0) (a .before .before .before .pre .1 .0))
+    (c .before .four .ensures ∙ ap (λ (q : Quad). fourFrom 28 (g % 8 * 63 + 3) (numberOf q)) (c .before .before .before .quad-at .ensures)) (a .loop .inv)
 
--- after the symbols of the upper numbers
+-- after the other symbols of the upper numbers
 abbrev Out2 : tie.After-fill Inv-loop μ-loop → List ℕ
 Out2 c =
-    let a = c .before .before .before .before .before .before in
-    let g = a .loop .g in
-    take (g * 64 + 1) (Out1 a) ++ (c .fill .last .1 .1 .1 .0 ++ drop (g * 64 + 32 - (g * 64 + 1)) (drop (g * 64 + 1) (Out1 a)))
+    let g = c .before .before .before .before .before .before .before .loop .g in
+    take (g * 64 + 4) (Out1 (c .before .before)) ++ (c .fill .last .1 .1 .1 .0 ++ drop (g * 64 + 32 - (g * 64 + 4)) (drop (g * 64 + 4) (Out1 (c .before .before))))
 
 two : (c : tie.After-fill Inv-loop μ-loop)
-    → Filling (mappedAt (wordsAt (c .before .before .before .before .before .before))) 6144 (frameAt (c .before .before .before .before .before .before)) (Out2 c) (c .before .before .before .before .before .before .loop .g * 64 + 32)
+    → Filling (mappedAt (wordsAt (c .before .before .before .before .before .before .before))) 6144 (frameAt (c .before .before .before .before .before .before .before)) (Out2 c)
+    (c .before .before .before .before .before .before .before .loop .g * 64 + 32)
 two c =
-    let a = c .before .before .before .before .before .before in
+    let a = c .before .before .before .before .before .before .before in
     let g = a .loop .g in
-    let q = c .before .before .before .before .quad-at in
-    let d : g * 64 + 32 - (g * 64 + 1) ≡ 31 = omega arith in
-    filling-put (mappedAt (wordsAt a)) (g * 64 + 32) _ (λ n k. symbolFrom n (g % 8 * 63) (numberOf (q .result)) k) (one (c .before .before .before .before .before))
+    let q = c .before .before .before .before .before .quad-at in
+    let d : g * 64 + 32 - (g * 64 + 4) ≡ 28 = omega arith in
+    filling-put (mappedAt (wordsAt a)) (g * 64 + 32) _ (λ n k. symbolFrom n (g % 8 * 63 + 3 + 4) (numberOf (q .result)) k) (one (c .before .before))
     (omega arith) (omega arith) (c .fill .ensures)
-    (λ k h. (λ i. symbolFrom (d i) (g % 8 * 63) (numberOf (q .ensures i)) k) ∙ upper-is (wordsAt a) g k (omega arith))
+    (λ k h. (λ i. symbolFrom (d i) (g % 8 * 63 + 3 + 4) (numberOf (q .ensures i)) k) ∙ rest-is (wordsAt a) g k (omega arith))
 
 loop-holds : tie.Need-loop-holds Inv-loop μ-loop
 loop-holds c = filling-start _ (c .before .before .pre .1 .1 .1)
@@ -93,11 +101,50 @@ mul-e c = omega arith
 add-e : tie.Need-add-e Inv-loop μ-loop
 add-e c = omega arith
 
+add-four : tie.Need-add-four Inv-loop μ-loop
+add-four c = omega arith
+
+four-requires : tie.Need-four-requires Inv-loop μ-loop
+four-requires c κs = (c .before .before .before .before .before .before .pre .0, omega arith)
+
 element-copy-out-frame : tie.Need-element-copy-out-frame Inv-loop μ-loop
 element-copy-out-frame c = omega arith
 
 slice-write-frame : tie.Need-slice-write-frame Inv-loop μ-loop
 slice-write-frame c = omega arith
+
+cast-frame : tie.Need-cast-frame Inv-loop μ-loop
+cast-frame c = omega arith
+
+add-frame : tie.Need-add-frame Inv-loop μ-loop
+add-frame c = omega arith
+
+slice-write-frame-2 : tie.Need-slice-write-frame-2 Inv-loop μ-loop
+slice-write-frame-2 c = simp length-set (omega arith)
+
+cast-frame-2 : tie.Need-cast-frame-2 Inv-loop μ-loop
+cast-frame-2 c = omega arith
+
+add-frame-2 : tie.Need-add-frame-2 Inv-loop μ-loop
+add-frame-2 c = omega arith
+
+slice-write-frame-3 : tie.Need-slice-write-frame-3 Inv-loop μ-loop
+slice-write-frame-3 c = simp length-set (omega arith)
+
+cast-frame-3 : tie.Need-cast-frame-3 Inv-loop μ-loop
+cast-frame-3 c = omega arith
+
+add-frame-3 : tie.Need-add-frame-3 Inv-loop μ-loop
+add-frame-3 c = omega arith
+
+slice-write-frame-4 : tie.Need-slice-write-frame-4 Inv-loop μ-loop
+slice-write-frame-4 c = simp length-set (omega arith)
+
+add-fill : tie.Need-add-fill Inv-loop μ-loop
+add-fill c = omega arith
+
+add-fill-2 : tie.Need-add-fill-2 Inv-loop μ-loop
+add-fill-2 c = omega arith
 
 sub-fill : tie.Need-sub-fill Inv-loop μ-loop
 sub-fill c = omega arith
@@ -106,14 +153,13 @@ part-fill-start : tie.Need-part-fill-start Inv-loop μ-loop
 part-fill-start c = omega arith
 
 part-fill-end : tie.Need-part-fill-end Inv-loop μ-loop
-part-fill-end c = omega (arith, one (c .before .before .before) .long)
+part-fill-end c = omega (arith, one c .long)
 
 fill-requires : tie.Need-fill-requires Inv-loop μ-loop
-fill-requires c κs =
-    (c .before .before .before .before .before .before .before .before .pre .0, simp (length-take, length-drop, length-set) (omega arith))
+fill-requires c κs = (c .before .before .before .before .before .before .before .before .before .pre .0, simp (length-take, length-drop, length-set) (omega arith))
 
-add-fill : tie.Need-add-fill Inv-loop μ-loop
-add-fill c = omega arith
+add-fill-3 : tie.Need-add-fill-3 Inv-loop μ-loop
+add-fill-3 c = omega arith
 
 sub-fill-2 : tie.Need-sub-fill-2 Inv-loop μ-loop
 sub-fill-2 c = omega arith
@@ -125,8 +171,7 @@ part-fill-end-2 : tie.Need-part-fill-end-2 Inv-loop μ-loop
 part-fill-end-2 c = omega (arith, two (c .before .before) .long)
 
 fill-requires-2 : tie.Need-fill-requires-2 Inv-loop μ-loop
-fill-requires-2 c κs =
-    (c .before .before .before .before .before .before .before .before .before .before .before .before .pre .0, simp (length-take, length-drop) (omega arith))
+fill-requires-2 c κs = (c .before .before .before .before .before .before .before .before .before .before .before .before .before .pre .0, simp (length-take, length-drop) (omega (arith, two (c .before .before .before) .long)))
 
 add-g : tie.Need-add-g Inv-loop μ-loop
 add-g c = omega arith
@@ -137,9 +182,9 @@ loop-less c = omega arith
 loop-again : tie.Need-loop-again Inv-loop μ-loop
 loop-again c =
     let filled = c .before .before .before .before .before .before in
-    let a = filled .before .before .before .before .before .before in
+    let a = filled .before .before .before .before .before .before .before in
     let g = a .loop .g in
-    let q = filled .before .before .before .quad-at2 in
+    let q = filled .before .before .before .before .quad-at2 in
     let d : g * 64 + 64 - (g * 64 + 32) ≡ 32 = omega arith in
     let z : g * 64 + 64 ≡ (g + 1) * 64 = omega arith in
     subst (Filling (mappedAt (wordsAt a)) 6144 (frameAt a) _) z
@@ -173,13 +218,26 @@ map-words-spec =
     add-m
     mul-e
     add-e
+    add-four
+    four-requires
     element-copy-out-frame
     slice-write-frame
+    cast-frame
+    add-frame
+    slice-write-frame-2
+    cast-frame-2
+    add-frame-2
+    slice-write-frame-3
+    cast-frame-3
+    add-frame-3
+    slice-write-frame-4
+    add-fill
+    add-fill-2
     sub-fill
     part-fill-start
     part-fill-end
     fill-requires
-    add-fill
+    add-fill-3
     sub-fill-2
     part-fill-start-2
     part-fill-end-2

@@ -1,0 +1,11 @@
+-- Each public function's contract fixes its outcome: two outcomes of one call that satisfy its `ensures`, as the source states it, are equal.
+-- Assumes nothing.
+use mathlib.Core.Path.{_≡_, sym, _∙_}
+use denote.Ref.{now}
+use Rattle.bits.proofs.Fixes.{Fixes}
+use Rattle.adderbloom.proofs.lr800_send.Kinds as send-kinds
+use Rattle.adderbloom.proofs.lr800_send.Reads as send-reads
+
+-- the number, and the store and the output at exit
+pub send-determined : Fixes 3 send-kinds.ps send-kinds.r send-reads.Post (λ κs s t. (now (s .1 .0) ≡ now (t .1 .0)) × (now (s .1 .1 .0) ≡ now (t .1 .1 .0)))
+send-determined κs a x y s t p q = (p .number ∙ sym (q .number), (p .store ∙ sym (q .store), p .output ∙ sym (q .output)))
