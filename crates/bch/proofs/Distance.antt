@@ -1,6 +1,6 @@
 -- Distances as weights: patterns are the words of weight at most two, code words have an even weight, and none but 0 weighs less than six.
 -- Assumes nothing.
-use mathlib.Core.Path.{_≡_, refl, sym, ap, ap₂, _∙_, subst}
+use mathlib.Core.Path.{_≡_, sym, ap, ap₂, _∙_, subst}
 use mathlib.Core.Logic.{_≢_}
 use Prim.Native.Nat.{ℕ, zero, suc, _+_, _-_, _*_, _/_, _%_, _^_, _<_, _≤_}
 use native.Mathlib.Nat.{mod-lt, add-zero, zero-add, zero-mul, suc-add}
@@ -8,16 +8,16 @@ use native.Mathlib.Omega.{arith}
 use native.Mathlib.Decide.{decLt}
 use lib.Dec.{lit<}
 use lib.Pow.{pow-lt}
-use lib.Bits.{bitXor, xor-comm, xor-lt, xor-self, xor-zero-r}
-use Rattle.bits.proofs.Xor.{xor-assoc, xor-cancel, xor-cancel-r, xor-zero-eq}
+use lib.Bits.{bitXor, xor-comm, xor-lt, xor-self}
+use Rattle.bits.proofs.Xor.{xor-assoc, xor-cancel, xor-zero-eq}
 use Rattle.bits.proofs.Weight.{weight, weight-zero, weight-power, weight-powers, weight-twice, weight-lead, weight-sum, weight-odd, weight-differs, powers-xor, Light, Light.none, Light.single, Light.double, light, parts}
 use Rattle.bch.specs.Code.{generator, multiple, CodeWord, remainder, distance}
-use Rattle.bch.specs.Mend.{mend, mended, flagOf}
+use Rattle.bch.specs.Mend.{flagOf}
 use Rattle.bch.specs.Tables.{Pattern, columns}
 use Rattle.bch.specs.declared.Mend.{Mend}
 use Rattle.bch.specs.declared.Mend.the-variants.{Clean, One, Two, Flagged}
 use Rattle.bch.proofs.Remainder.{remainder-xor, code-remainder, code-lt}
-use Rattle.bch.proofs.Patterns.{mask, mended-mask, columns-mask, columns-apart}
+use Rattle.bch.proofs.Patterns.{mask, columns-mask, columns-apart}
 
 pub distance-weight : (v w : ℕ) → distance v w ≡ weight 126 (bitXor v w)
 unfolding distance

@@ -1,14 +1,14 @@
 -- The tables of src/tables.rt as lists, and the rule of each, by tests that antt computes over the whole table, or over all 8,002 patterns.
 -- Assumes nothing.
-use mathlib.Core.Path.{_≡_, refl, sym, ap, ap₂, _∙_}
-use mathlib.Core.Bool.{Bool, true, false, _&&_}
+use mathlib.Core.Path.{_≡_, refl, sym, ap, _∙_}
+use mathlib.Core.Bool.{Bool, _&&_}
 use mathlib.Core.List.{List, [], _∷_}
-use Prim.Native.Nat.{ℕ, zero, suc, _+_, _-_, _*_, _/_, _%_, _^_, _<_, _≤_}
-use native.Mathlib.Nat.{add-zero, zero-add}
+use Prim.Native.Nat.{ℕ, zero, suc, _+_, _-_, _*_, _/_, _^_, _<_, _≤_}
+use native.Mathlib.Nat.{zero-add}
 use native.Mathlib.Omega.{arith}
 use native.Mathlib.Decide.{decLt}
-use lib.Dec.{T, eqb, eqb→eq, lit<, lit≤}
-use lib.ListN.{getD, length, drop}
+use lib.Dec.{T, eqb, eqb→eq, lit<}
+use lib.ListN.{getD}
 use lib.Bits.{bitXor}
 use Rattle.bits.proofs.Table.{each, range-rule, and-left, and-right}
 use Rattle.bch.specs.Code.{stepOf, feedOf, remainder}

@@ -3,13 +3,12 @@
 use mathlib.Core.Path.{_≡_, refl, sym, ap, ap₂, _∙_, subst}
 use mathlib.Core.List.{List}
 use Prim.Native.Nat.{ℕ, zero, suc, _+_, _-_, _*_, _/_, _%_, _^_, _<_, _≤_}
-use native.Mathlib.Nat.{mod-lt, add-zero, div-add-mod', div-div-eq-div-mul, pow-suc, suc-sub-suc, sub-zero}
+use native.Mathlib.Nat.{mod-lt, div-add-mod', div-div-eq-div-mul, pow-suc, suc-sub-suc, sub-zero}
 use native.Mathlib.Omega.{arith}
 use lib.Arith.{digits-lt}
 use lib.Dec.{lit<, lit≤}
 use lib.ListN.{getD}
 use lib.Bits.{bitXor}
-use lib.Pow.{shr-lt}
 use Rattle.bch.specs.Code.{stepOf, feedOf, remainder, parityOf}
 use Rattle.bits.specs.Words.{wordOf}
 use Rattle.bch.specs.Word.{informationOf}

@@ -1,7 +1,7 @@
 -- A word in two numbers: a bit turned over, what it decodes to, and what is sent.
 -- Assumes nothing.
-use mathlib.Core.Path.{_≡_, refl, sym, ap, ap₂, _∙_, subst}
-use Prim.Native.Nat.{ℕ, zero, suc, _+_, _-_, _*_, _/_, _%_, _^_, _<_, _≤_}
+use mathlib.Core.Path.{_≡_, sym, ap, _∙_, subst}
+use Prim.Native.Nat.{ℕ, _+_, _-_, _*_, _/_, _%_, _^_, _<_, _≤_}
 use native.Mathlib.Nat.{zero-add, add-zero, one-mul, mod-eq-of-lt}
 use native.Mathlib.Omega.{arith}
 use lib.Arith.{digits-div, digits-mod}
@@ -12,8 +12,7 @@ use Rattle.bits.specs.Words.{wordOf}
 use Rattle.bch.specs.Code.{remainder, parityOf, coded, flipped}
 use Rattle.bch.specs.Mend.{mend, mended}
 use Rattle.bch.specs.Word.{informationOf, decoded}
-use Rattle.bch.specs.Tables.{Answers, Pattern}
-use Rattle.bch.specs.declared.Decoded.{Decoded}
+use Rattle.bch.specs.Tables.{Answers}
 use Rattle.bch.specs.declared.Mend.{Mend}
 use Rattle.bch.proofs.Remainder.{remainder-lt}
 use Rattle.bch.proofs.Patterns.{answers-unique, mend-answers}

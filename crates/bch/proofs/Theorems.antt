@@ -1,17 +1,16 @@
 -- The word code keeps what specs/Demands states of it.
 -- Assumes nothing.
-use mathlib.Core.Path.{_≡_, refl, sym, ap, ap₂, _∙_, subst}
+use mathlib.Core.Path.{_≡_, refl, sym, ap, _∙_, subst}
 use mathlib.Core.Logic.{inl, inr}
-use mathlib.Core.List.{List}
-use Prim.Native.Nat.{ℕ, zero, suc, _+_, _*_, _/_, _%_, _^_, _<_, _≤_}
-use native.Mathlib.Nat.{mod-lt, zero-add, zero-mul, div-add-mod'}
+use Prim.Native.Nat.{ℕ, zero, _+_, _*_, _/_, _%_, _^_, _<_}
+use native.Mathlib.Nat.{mod-lt, zero-add, div-add-mod'}
 use native.Mathlib.Omega.{arith}
 use native.Mathlib.Decide.{ℕ-discrete, decLt}
 use lib.Arith.{digits-div, digits-lt}
 use lib.Dec.{lit<}
 use lib.ListN.{getD}
 use lib.Pow.{shr-lt}
-use lib.Bits.{bitXor, xor-block, xor-comm, xor-lt, xor-self, xor-shifted, xor-zero-r}
+use lib.Bits.{bitXor, xor-block, xor-comm, xor-lt, xor-self, xor-shifted}
 use Rattle.bits.specs.Bits.{bitOf, count}
 use Rattle.bits.specs.Words.{wordOf, wordAt}
 use Rattle.bits.proofs.Tabulate.{getD-tabulate}
@@ -25,9 +24,9 @@ use Rattle.bch.specs.Tables.{Pattern, columns, Answers}
 use Rattle.bch.specs.Demands.{SentIsCode, MendsTwo, FlaggedExactly, MendedIsCode, FlaggedPasses, TwoVanish, SmallestDistance, ThreeFlagged, FlipsAlone, WordCalls, FrameCalls}
 use Rattle.bch.specs.declared.Mend.{Mend}
 use Rattle.bch.specs.declared.Mend.the-variants.{Clean, One, Two, Flagged}
-use Rattle.bch.proofs.Remainder.{remainder-lt, remainder-xor, remainder-own, remainder-lead, code-remainder, remainder-code, remainder-code-xor, code-lt}
+use Rattle.bch.proofs.Remainder.{remainder-lt, remainder-xor, remainder-own, remainder-lead, remainder-code, remainder-code-xor, code-lt}
 use Rattle.bch.proofs.Patterns.{mask, mended-mask, columns-mask, answers-unique, mend-answers, mend-code}
-use Rattle.bch.proofs.Distance.{distance-weight, distance-comm, distance-through, PatternOf, light-pattern, mask-lt, mask-weight, flag-pattern, code-apart}
+use Rattle.bch.proofs.Distance.{distance-weight, distance-comm, distance-through, light-pattern, mask-lt, mask-weight, flag-pattern, code-apart}
 
 -- ---- what is sent
 

@@ -1,7 +1,7 @@
 // The word code BCH(126,110): parity and decoding of one word, and of the 384 words of a frame in one call.
 // A word is two numbers: hi has bits 0 to 61 in its 62 low bits, lo has bits 62 to 125. Bits 0 to 109 are the information, the rest is parity.
 ghost use mathlib.Core.Path.{_≡_};
-ghost use Prim.Native.Nat.{ℕ, _<_, _≤_, _+_, _*_, _^_};
+ghost use Prim.Native.Nat.{_<_, _≤_, _+_, _*_, _^_};
 ghost use lib.ListN.{getD, length};
 ghost use Rattle.bch.specs.Code.{stepOf, feedOf, remainder, parityOf, flipped};
 ghost use Rattle.bch.specs.Mend.{mended, flagOf};

@@ -1,16 +1,16 @@
 -- How many of the k low bits of a number are set: its weight. What a sum's weight is, which numbers have a weight of at most two, and that weights count
 -- the places where two numbers differ.
 -- Assumes nothing.
-use mathlib.Core.Path.{_≡_, refl, sym, ap, ap₂, _∙_, subst}
-use mathlib.Core.Bool.{Bool, true, false, not, cond}
+use mathlib.Core.Path.{_≡_, refl, sym, ap, ap₂, _∙_}
+use mathlib.Core.Bool.{not, cond}
 use mathlib.Core.Logic.{_⊎_, inl, inr}
 use Prim.Native.Nat.{ℕ, zero, suc, _+_, _-_, _*_, _/_, _%_, _^_, _<_, _≤_}
 use native.Mathlib.Nat.{mod-lt, one-mul, pow-suc, div-add-mod', zero-add, suc-add, mul-comm, mul-div-cancel, mul-mod-left, div-one, div-div-eq-div-mul}
 use native.Mathlib.Omega.{arith}
 use lib.Arith.{lt-one, digits-div, digits-mod}
 use lib.Dec.{eqb, lit<}
-use lib.Pow.{pow-lt, pow-pos}
-use lib.Bits.{bitXor, differ, xor-shifted, xor-comm, xor-lt}
+use lib.Pow.{pow-lt}
+use lib.Bits.{bitXor, differ, xor-shifted, xor-comm}
 use Rattle.bits.specs.Bits.{bitOf, count}
 use Rattle.bits.proofs.Xor.{bit-cases, xor-half, xor-odd, xor-double}
 use Rattle.bits.proofs.Count.{count-cong}

@@ -1,7 +1,7 @@
 -- Lists by their elements, numbers by their digits, bytes by their bits: the earliest bit stands in the top bit of a byte (01, one frame in
 -- numbers). And counting, and the first of a list.
 -- Assumes nothing.
-use mathlib.Core.Bool.{Bool, true, false, cond}
+use mathlib.Core.Bool.{Bool, cond}
 use mathlib.Core.List.{List, [], _∷_, _++_}
 use Prim.Native.Nat.{ℕ, zero, suc, _+_, _*_, _-_, _/_, _%_, _^_}
 use lib.ListN.{getD, length, take, drop}

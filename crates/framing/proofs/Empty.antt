@@ -2,7 +2,7 @@
 -- Assumes nothing.
 use mathlib.Core.Path.{_≡_, refl, sym, ap, _∙_}
 use mathlib.Core.List.{List}
-use Prim.Native.Nat.{ℕ, zero, suc, _+_, _*_, _/_, _%_, _<_}
+use Prim.Native.Nat.{ℕ, zero, suc, _/_, _%_, _<_}
 use native.Mathlib.Omega.{arith}
 use lib.ListN.{length, replicate, length-replicate, getD-replicate}
 use Rattle.bits.specs.Bits.{bitOf, bitAt}
@@ -13,7 +13,6 @@ use Rattle.lanes.proofs.Bytewise.{permuted-lt, lanes-lt}
 use Rattle.lanes.proofs.Stream.{stored-bit}
 use Rattle.symbols.specs.Frame.{arrived}
 use Rattle.framing.specs.Send.{base, Sends}
-use Rattle.framing.specs.Stream.{Sent}
 use Rattle.framing.proofs.Sending.{done}
 use Rattle.framing.proofs.Stream.{block-rule}
 

@@ -4,7 +4,7 @@ use mathlib.Core.Path.{_≡_, refl, sym, ap, ap₂, _∙_, subst}
 use mathlib.Core.List.{List}
 use Prim.Native.Nat.{ℕ, zero, suc, _+_, _*_, _/_, _%_, _^_, _<_}
 use native.Mathlib.Omega.{arith}
-use lib.ListN.{length, replicate, length-replicate}
+use lib.ListN.{length, length-replicate}
 use Rattle.bits.specs.Bits.{bitOf, bitAt}
 use Rattle.bits.specs.Words.{wordAt}
 use Rattle.bits.proofs.Words.{row-at}
@@ -17,7 +17,7 @@ use Rattle.lanes.specs.Words.{informationAt, laneWords}
 use Rattle.lanes.specs.Stream.{streamBit, interleaved, Woven}
 use Rattle.lanes.proofs.LaneWords.{bit-information, information-lt, information-bit, word-information}
 use Rattle.lanes.proofs.Stream.{woven-stream}
-use Rattle.symbols.specs.Frame.{frameOf, arrived}
+use Rattle.symbols.specs.Frame.{arrived}
 use Rattle.symbols.proofs.Return.{arrived-frame}
 use Rattle.framing.specs.Send.{sentFrame}
 use Rattle.framing.specs.Stream.{Sent, BlockRule}

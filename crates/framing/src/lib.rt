@@ -1,7 +1,6 @@
 // One call: a frame sent.
 ghost use mathlib.Core.Path.{_≡_};
 ghost use lib.ListN.{length};
-ghost use Rattle.lanes.specs.Permutation.{named};
 ghost use Rattle.lanes.specs.Interleaver.{wovenStore};
 ghost use Rattle.framing.specs.Send.{base, sentFrame, Sends};
 

@@ -2,7 +2,6 @@
 -- Assumes nothing.
 use mathlib.Core.Path.{_≡_, refl, sym, ap, ap₂, _∙_, subst}
 use mathlib.Core.Bool.{Bool, true, false, cond}
-use mathlib.Core.Logic.{_⊎_, inl, inr}
 use mathlib.Core.List.{List, _++_}
 use Prim.Native.Nat.{ℕ, zero, suc, _+_, _-_, _*_, _/_, _%_, _^_, _<_, _≤_}
 use native.Mathlib.Nat.{lt-of-le-of-lt, mod-lt, div-add-mod', mul-add, mul-suc, mul-comm, add-assoc, mul-left-comm}
@@ -12,8 +11,8 @@ use native.Mathlib.Omega.{arith}
 use lib.Dec.{eqb, ltb, lit<}
 use lib.ListN.{getD, set, length, take, drop}
 use lib.Bits.{bitAnd, bitXor, and-le-l, xor-lt, xor-shr, xor-mod}
-use borrow.Author.Tests.{lt-ltb, le-ltb, ltb-true, ltb-false}
-use Rattle.bits.specs.Bits.{tabulate, value, number, bitOf, bitAt, bytes}
+use borrow.Author.Tests.{lt-ltb, le-ltb}
+use Rattle.bits.specs.Bits.{tabulate, number, bitOf, bitAt, bytes}
 use Rattle.bits.proofs.Tabulate.{tabulate-cong}
 use Rattle.bits.proofs.Filling.{Filling, filling-turn, filling-at, filling-put}
 use Rattle.bits.proofs.Value.{value-cong, bit-lt, bit-and, number-bits}

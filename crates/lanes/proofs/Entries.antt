@@ -1,15 +1,15 @@
 -- The tables of src/tables.rt as lists, and the rule of each, by a test that antt computes over the whole table.
 -- Assumes nothing.
-use mathlib.Core.Path.{_≡_, refl, sym, ap, _∙_}
-use mathlib.Core.Bool.{Bool, true, false, _&&_}
+use mathlib.Core.Path.{_≡_, refl, ap, _∙_}
+use mathlib.Core.Bool.{Bool, _&&_}
 use mathlib.Core.List.{List, [], _∷_}
-use Prim.Native.Nat.{ℕ, suc, _+_, _-_, _*_, _/_, _%_, _^_, _<_, _≤_}
+use Prim.Native.Nat.{ℕ, _+_, _-_, _*_, _/_, _%_, _^_, _<_, _≤_}
 use native.Mathlib.Omega.{arith}
 use native.Mathlib.Decide.{decLt}
-use lib.Dec.{T, eqb, ltb, eqb→eq, ltb→lt, lit<, lit≤}
+use lib.Dec.{T, eqb, ltb, eqb→eq, ltb→lt, lit<}
 use lib.ListN.{getD, length, List·getD-eq-default}
 use Rattle.bits.specs.Bits.{bitOf, number, value}
-use Rattle.bits.proofs.Table.{every, table-rule, each, range-rule, and-left, and-right}
+use Rattle.bits.proofs.Table.{every, table-rule, each, and-left, and-right}
 use Rattle.bits.proofs.Value.{bit-number}
 use Rattle.lanes.specs.Permutation.{named}
 use Rattle.lanes.specs.Interleaver.{Rows, sender, receiver}

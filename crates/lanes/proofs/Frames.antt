@@ -1,8 +1,8 @@
 -- A whole frame: the permutation and the moved blocks are what the definitions say of it, on the way out and on the way back.
 -- Assumes nothing.
-use mathlib.Core.Path.{_≡_, refl, sym, ap, _∙_, subst}
+use mathlib.Core.Path.{_≡_, refl, ap, _∙_}
 use mathlib.Core.List.{List}
-use Prim.Native.Nat.{ℕ, _+_, _*_, _/_, _%_, _<_}
+use Prim.Native.Nat.{ℕ, _+_, _/_, _%_, _<_}
 use lib.ListN.{getD}
 use Rattle.bits.specs.Bits.{tabulate}
 use Rattle.bits.proofs.Fields.{Bytes}

@@ -1,17 +1,17 @@
 -- A run of frames from a fresh store is the block rule over the stream, on the way out and on the way back.
 -- Assumes nothing.
-use mathlib.Core.Path.{_≡_, refl, ap, ap₂, _∙_, sym}
+use mathlib.Core.Path.{_≡_, ap, ap₂, _∙_}
 use mathlib.Core.Bool.{Bool, true, false, cond}
 use mathlib.Core.List.{List}
-use Prim.Native.Nat.{ℕ, zero, suc, _+_, _*_, _-_, _/_, _%_, _^_, _≤_, _<_}
+use Prim.Native.Nat.{ℕ, suc, _+_, _*_, _-_, _/_, _%_, _^_, _≤_, _<_}
 use native.Mathlib.Nat.{zero-div}
 use native.Mathlib.Decide.{decLt}
 use native.Mathlib.Omega.{arith}
 use lib.Dec.{ltb}
 use lib.ListN.{length, getD, replicate, length-replicate, getD-replicate, List·getD-eq-default}
-use Rattle.bits.specs.Bits.{bitOf, bitAt, bytes}
+use Rattle.bits.specs.Bits.{bitOf, bitAt}
 use Rattle.bits.proofs.Fields.{bitAt-lt, bytes-bit}
-use Rattle.lanes.specs.Permutation.{Lanes, Places, partner, permuted, lanesOf, frameOf}
+use Rattle.lanes.specs.Permutation.{Lanes, Places, partner, permuted, lanesOf}
 use Rattle.lanes.specs.Interleaver.{Rows, sender, receiver, stored, woven, rowAt, storeBit, storeNext, wovenFrame, wovenStore, unwovenFrame, unwovenStore}
 use Rattle.lanes.specs.Stream.{streamBit, delayed, interleaved, deinterleaved, Woven, Unwoven}
 use Rattle.lanes.proofs.Bytewise.{frame-bit, permuted-lt, woven-lt, lanes-lt}

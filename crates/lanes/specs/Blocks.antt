@@ -7,7 +7,7 @@ use mathlib.Core.List.{List}
 use Prim.Native.Nat.{ℕ, suc, _+_, _*_, _-_, _/_, _%_, _<_}
 use lib.Dec.{eqb, ltb}
 use lib.ListN.{getD}
-use Rattle.bits.specs.Bits.{bitOf, tabulate}
+use Rattle.bits.specs.Bits.{bitOf}
 use Rattle.lanes.specs.Permutation.{named}
 use Rattle.lanes.specs.Interleaver.{Rows, rowAt}
 

@@ -49,23 +49,26 @@ module _ (R : Rows) (s : List ℕ) (x : Lanes) where
 abbrev pub rowAt : Rows → ℕ → ℕ
 rowAt R b = cond (ltb b (R .start 1)) 0 (cond (ltb b (R .start 1 + R .depth 1)) 1 2)
 
--- the store after the frame: bit i of lane p, and the bytes
+-- the store after the frame: bit i of lane p
 unfoldable pub storeBit : Rows → List ℕ → Lanes → Lanes
 storeBit R s x p i = keptNext R s x p (rowAt R (i / 40)) (i / 40 - R .start (rowAt R (i / 40))) (i % 40)
 
+-- its bytes, 90 a lane
 unfoldable pub storeNext : Rows → List ℕ → Lanes → List ℕ
 storeNext R s x = bytes 2880 (λ i. storeBit R s x (i / 720) (i % 720))
 
--- a frame's lanes permuted and woven, and the store that is kept
+-- a frame's lanes permuted and woven
 unfoldable pub wovenFrame : Places → List ℕ → List ℕ → List ℕ
 wovenFrame ex a s = frameOf (woven sender s (permuted ex (lanesOf a)))
 
+-- the store that is then kept
 unfoldable pub wovenStore : Places → List ℕ → List ℕ → List ℕ
 wovenStore ex a s = storeNext sender s (permuted ex (lanesOf a))
 
--- the way back: unwoven and permuted, and the store that is kept
+-- the way back: a frame's lanes unwoven and permuted
 unfoldable pub unwovenFrame : Places → List ℕ → List ℕ → List ℕ
 unwovenFrame ex a s = frameOf (permuted ex (woven receiver s (lanesOf a)))
 
+-- the store that is then kept
 unfoldable pub unwovenStore : List ℕ → List ℕ → List ℕ
 unwovenStore a s = storeNext receiver s (lanesOf a)

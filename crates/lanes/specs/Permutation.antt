@@ -26,9 +26,10 @@ partner p = (p + 16) % 32
 unfoldable pub permuted : Places → Lanes → Lanes
 permuted ex x p i = cond (ex (i / 10 % 4)) (x (partner p) i) (x p i)
 
--- a frame of 32 lanes of 165 bytes, lane 0 first: bit i of lane p, and the frame that has given bits (01, one frame in numbers)
+-- bit i of lane p of a frame of 32 lanes of 165 bytes, lane 0 first (01, one frame in numbers)
 abbrev pub lanesOf : List ℕ → Lanes
 lanesOf a p i = bitAt a (1320 * p + i)
 
+-- the frame that has given bits
 unfoldable pub frameOf : Lanes → List ℕ
 frameOf x = bytes 5280 (λ j. x (j / 1320) (j % 1320))

@@ -1,6 +1,6 @@
 // Permutation and interleaver over one frame and its store, by whole bytes and blocks.
 ghost use mathlib.Core.Path.{_≡_};
-ghost use Prim.Native.Nat.{ℕ, _<_, _≤_, _+_, _*_, _/_, _%_};
+ghost use Prim.Native.Nat.{_<_, _≤_, _+_, _*_, _/_, _%_};
 ghost use lib.ListN.{getD, length};
 ghost use Rattle.bits.specs.Bits.{tabulate};
 ghost use Rattle.bits.proofs.Fields.{Bytes};

@@ -1,6 +1,5 @@
 -- `bch::turned` meets its contract, case by case. Assumes nothing.
 use mathlib.Core.Path.{sym, ap, _∙_, subst}
-use Prim.Native.Nat.{ℕ}
 use Rattle.bch.specs.Code.{flipped}
 use Rattle.bch.specs.Mend.{mended}
 use Rattle.bch.specs.Tables.{Within}

@@ -1,6 +1,6 @@
 -- `bits::copy_first` meets its contract: the bytes before byte i are copied. Assumes nothing.
-use mathlib.Core.Path.{_≡_, refl, subst}
-use Prim.Native.Nat.{ℕ, _≤_, _-_}
+use mathlib.Core.Path.{_≡_, refl}
+use Prim.Native.Nat.{_≤_, _-_}
 use lib.ListN.{length, getD}
 use Rattle.bits.proofs.Filling.{Filling, filling-start, filling-turn, filling-copied}
 use native.Mathlib.Omega.{arith}

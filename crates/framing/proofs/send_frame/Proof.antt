@@ -1,5 +1,5 @@
 -- `framing::send_frame` meets its contract: its calls' promises, one after the other. Assumes nothing.
-use mathlib.Core.Path.{_≡_, ap, _∙_}
+use mathlib.Core.Path.{ap, _∙_}
 use Rattle.lanes.specs.Words.{laneWords}
 use Rattle.bch.specs.Word.{codedFrame}
 use Rattle.symbols.specs.Frame.{frameOf}

@@ -1,5 +1,5 @@
 -- `framing::send_slices` meets its contract: what is copied in is sent, and what was sent is copied out. Assumes nothing.
-use mathlib.Core.Path.{_≡_, sym, ap, ap₂, _∙_}
+use mathlib.Core.Path.{sym, ap, ap₂, _∙_}
 use lib.ListN.{length}
 use Rattle.bits.proofs.Filling.{copied-all}
 use Rattle.lanes.specs.Interleaver.{wovenStore}
