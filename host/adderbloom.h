@@ -1,4 +1,4 @@
-/* The sending logic of the 800LR coherent line for a host program in C. */
+/* The sending and receiving logic of the 800LR coherent line for a host program in C. */
 #ifndef ADDERBLOOM_H
 #define ADDERBLOOM_H
 
@@ -12,6 +12,7 @@ extern "C" {
 #define LR800_LANES 5280 /* 32 lanes of 165 bytes, lane 0 first; the top bit of a byte goes first */
 #define LR800_STORE 2880 /* a delay store; all zero is fresh, any content is lawful */
 #define LR800_FRAME 6144 /* symbols of a frame, a byte each: XI, XQ, YI, YQ, two bits each, XI on top */
+#define LR800_FLAGS 384 /* a byte for each word of a frame, that of word k of lane p at 32 k + p: 0, 1 or 2 bits mended, 3 flagged */
 
 /* Sends a frame. The store is the sender's own: lend it to every call of a stream, and to no receiver.
  * Returns 0, or the lowest of these, and then nothing is changed:
@@ -20,6 +21,18 @@ extern "C" {
  *   3  output is not LR800_FRAME bytes long
  * The buffers must not overlap. A length of 0 may come with a null pointer, another length may not. */
 uint32_t lr800_send(const uint8_t *input, size_t input_length, uint8_t *store, size_t store_length, uint8_t *output, size_t output_length);
+
+/* Receives a frame. The store is the receiver's own: lend it to every call of a stream, and to no sender.
+ * Returns 0, or the lowest of these, and then nothing is changed:
+ *   1  input is not LR800_FRAME bytes long
+ *   2  store is not LR800_STORE bytes long
+ *   3  output is not LR800_LANES bytes long
+ *   4  flags is not LR800_FLAGS bytes long
+ *   5  no lock: 25 or more of the 96 pilot bytes differ. The frame is lost, and an account must be told so.
+ * Lanes come back 36 blocks (1,440 bits) later, behind zeros from a fresh store.
+ * The buffers must not overlap. A length of 0 may come with a null pointer, another length may not. */
+uint32_t lr800_receive(const uint8_t *input, size_t input_length, uint8_t *store, size_t store_length, uint8_t *output, size_t output_length,
+                       uint8_t *flags, size_t flags_length);
 
 #ifdef __cplusplus
 }

@@ -1,6 +1,7 @@
 /* Makes the calls that standard input tells and compares every answer and every byte with what it says they must be.
- * A record: input, store and output, each its length in four bytes, highest first, and its bytes; then the number, four bytes, and the store and the
- * output after the call. Guard bytes stand around every buffer, and a buffer of no bytes is lent as a null pointer. */
+ * A record: a byte that is 0 for sending and 1 for receiving; input, store, output and, of receiving, flags, each its length in four bytes, highest first,
+ * and its bytes; then the number, four bytes, and store, output and flags after the call. Guard bytes stand around every buffer, and a buffer of no bytes is
+ * lent as a null pointer. */
 #include "adderbloom.h"
 #include <stdio.h>
 #include <stdlib.h>
@@ -54,33 +55,68 @@ static void compare(buffer b, const uint8_t *expected, const char *what) {
         if (b.block[i] != GUARD_BYTE || b.block[GUARD + b.length + i] != GUARD_BYTE) stop("a byte beside a buffer was written");
 }
 
-int main(void) {
-    unsigned long by_number[4] = {0};
-    int next;
-    while ((next = getchar()) != EOF) {
-        ungetc(next, stdin);
-        buffer input = take_buffer(), store = take_buffer(), output = take_buffer();
-        uint32_t number = take_number();
-        buffer input_before = guarded(input.length), store_after = guarded(store.length), output_after = guarded(output.length);
-        memcpy(input_before.block + GUARD, input.block + GUARD, input.length);
-        take(store_after.block + GUARD, store.length);
-        take(output_after.block + GUARD, output.length);
+/* a buffer that a call may write: lent as it was, compared with what it must be after */
+typedef struct {
+    buffer lent, after;
+    const char *other;
+} written;
 
-        uint32_t got = lr800_send(lent(input), input.length, lent(store), store.length, lent(output), output.length);
+static written take_written(const char *other) {
+    buffer b = take_buffer();
+    return (written){b, guarded(b.length), other};
+}
+
+static void compare_written(written w) {
+    compare(w.lent, w.after.block + GUARD, w.other);
+    free(w.lent.block);
+    free(w.after.block);
+}
+
+enum { SEND, RECEIVE, KINDS, NUMBERS = 6 };
+
+static void report(const char *what, const unsigned long *by_number, int numbers) {
+    printf("%lu %s", by_number[0], what);
+    for (int n = 1; n < numbers; n++) printf(", %lu refused by %d", by_number[n], n);
+    /* a replay that met no frame, or not every refusal, has shown nothing */
+    for (int n = 0; n < numbers; n++)
+        if (by_number[n] == 0) stop("a number that never occurred");
+    printf("\n");
+}
+
+int main(void) {
+    unsigned long by_number[KINDS][NUMBERS] = {{0}};
+    int kind;
+    while ((kind = getchar()) != EOF) {
+        if (kind != SEND && kind != RECEIVE) stop("a call of no kind");
+        buffer input = take_buffer();
+        written store = take_written("another store"), output = take_written("another output");
+        written flags = {0};
+        if (kind == RECEIVE) flags = take_written("other flags");
+        uint32_t number = take_number();
+        buffer input_before = guarded(input.length);
+        memcpy(input_before.block + GUARD, input.block + GUARD, input.length);
+        take(store.after.block + GUARD, store.after.length);
+        take(output.after.block + GUARD, output.after.length);
+        if (kind == RECEIVE) take(flags.after.block + GUARD, flags.after.length);
+
+        uint32_t got = kind == SEND
+            ? lr800_send(lent(input), input.length, lent(store.lent), store.lent.length, lent(output.lent), output.lent.length)
+            : lr800_receive(lent(input), input.length, lent(store.lent), store.lent.length, lent(output.lent), output.lent.length,
+                            lent(flags.lent), flags.lent.length);
         if (got != number) stop("another number");
         compare(input, input_before.block + GUARD, "the input was written");
-        compare(store, store_after.block + GUARD, "another store");
-        compare(output, output_after.block + GUARD, "another output");
+        compare_written(store);
+        compare_written(output);
+        if (kind == RECEIVE) compare_written(flags);
+        free(input.block);
+        free(input_before.block);
 
-        if (number < 4) by_number[number]++;
-        buffer all[] = {input, store, output, input_before, store_after, output_after};
-        for (size_t i = 0; i < sizeof all / sizeof *all; i++) free(all[i].block);
+        if (number < NUMBERS) by_number[kind][number]++;
         calls++;
     }
     if (ferror(stdin)) stop("standard input cannot be read");
-    /* a replay that met no frame, or not every refusal, has shown nothing */
-    for (int n = 0; n < 4; n++)
-        if (by_number[n] == 0) stop("a number that never occurred");
-    printf("%lu calls agree: %lu sent, %lu, %lu and %lu refused by 1, 2 and 3\n", calls, by_number[0], by_number[1], by_number[2], by_number[3]);
+    printf("%lu calls agree\n", calls);
+    report("sent", by_number[SEND], 4);
+    report("received", by_number[RECEIVE], 6);
     return 0;
 }

@@ -1,9 +1,9 @@
-//! From the lanes to the words: permutation, interleaver, and the cut into words.
+//! From the lanes to the words and back: permutation, interleaver, and the cut into words.
 //!
 //! A lane frame is 165 bytes, the earliest bit in the top bit of a byte: 33 blocks of four symbols of
 //! ten bits, or 12 words of 110 bits. A frame is 32 of them, lane 0 first.
 
-use crate::word::FRAME_WORDS;
+use crate::word::{join, FRAME_WORDS, PARITY_BITS};
 
 pub const LANES: usize = 32;
 pub const SYMBOL_BITS: usize = 10;
@@ -18,8 +18,10 @@ pub const ROWS: usize = 3;
 pub const ROW_1_BLOCKS: usize = 6;
 pub const ROW_2_BLOCKS: usize = 12;
 
-/// What a lane keeps between frames: row 1, then row 2, in each the newest block first.
-pub const KEPT_BYTES: usize = (ROW_1_BLOCKS + ROW_2_BLOCKS) * BLOCK_BYTES;
+/// What a lane keeps between frames, in each row the newest block first. Sending keeps row 1, then
+/// row 2; receiving keeps row 0, as long as row 2 of sending, then row 1.
+pub const KEPT_BLOCKS: usize = ROW_1_BLOCKS + ROW_2_BLOCKS;
+pub const KEPT_BYTES: usize = KEPT_BLOCKS * BLOCK_BYTES;
 pub const STORE_BYTES: usize = LANES * KEPT_BYTES;
 
 /// Places 2 and 3, counted from 0.
@@ -66,6 +68,13 @@ pub const fn block_source(n: u64) -> Option<u64> {
     n.checked_sub(18 * (n % ROWS as u64))
 }
 
+/// The same for the way back, from received block to returned block. Both ways together are 36.
+pub const fn returned_source(n: u64) -> Option<u64> {
+    n.checked_sub(18 * (ROWS as u64 - 1 - n % ROWS as u64))
+}
+
+const TURNS: usize = FRAME_BLOCKS / ROWS;
+
 #[inline(always)]
 fn copy_block(to: &mut [u8], place: usize, from: &[u8], taken: usize) {
     to[BLOCK_BYTES * place..][..BLOCK_BYTES]
@@ -78,7 +87,6 @@ pub fn interleave(
     store: &mut [u8; STORE_BYTES],
     output: &mut [u8; LANES_BYTES],
 ) {
-    const TURNS: usize = FRAME_BLOCKS / ROWS;
     let lanes = lanes.chunks_exact(LANE_BYTES);
     let store = store.chunks_exact_mut(KEPT_BYTES);
     let output = output.chunks_exact_mut(LANE_BYTES);
@@ -104,11 +112,57 @@ pub fn interleave(
     }
 }
 
+/// Copies a block and, where there are any, three bytes more, in one move of eight. What stands
+/// behind the block must be written later.
+#[inline(always)]
+fn copy_on(to: &mut [u8], place: usize, from: &[u8], taken: usize) {
+    let to = &mut to[BLOCK_BYTES * place..];
+    let from = &from[BLOCK_BYTES * taken..];
+    if to.len() < 8 || from.len() < 8 {
+        to[..BLOCK_BYTES].copy_from_slice(&from[..BLOCK_BYTES]);
+    } else {
+        to[..8].copy_from_slice(&from[..8]);
+    }
+}
+
+/// One frame of all lanes through the interleaver of the receiver, whose last row holds no block.
+pub fn deinterleave(
+    lanes: &[u8; LANES_BYTES],
+    store: &mut [u8; STORE_BYTES],
+    output: &mut [u8; LANES_BYTES],
+) {
+    let lanes = lanes.chunks_exact(LANE_BYTES);
+    let store = store.chunks_exact_mut(KEPT_BYTES);
+    let output = output.chunks_exact_mut(LANE_BYTES);
+    for ((lane, kept), out) in lanes.zip(store).zip(output) {
+        // Row 1 is kept behind row 0, which is as long as row 2 of sending.
+        for turn in 0..TURNS {
+            copy_on(out, ROWS * turn, kept, ROW_2_BLOCKS - 1 - turn);
+            if turn < ROW_1_BLOCKS {
+                copy_on(out, ROWS * turn + 1, kept, KEPT_BLOCKS - 1 - turn);
+            } else {
+                copy_on(out, ROWS * turn + 1, lane, ROWS * (turn - ROW_1_BLOCKS) + 1);
+            }
+            copy_on(out, ROWS * turn + 2, lane, ROWS * turn + 2);
+        }
+        let mut stays = [0; BLOCK_BYTES];
+        copy_block(&mut stays, 0, kept, 0);
+        for age in 0..TURNS {
+            copy_on(kept, age, lane, ROWS * (TURNS - 1 - age));
+        }
+        copy_block(kept, TURNS, &stays, 0);
+        for age in 0..ROW_1_BLOCKS {
+            copy_on(kept, ROW_2_BLOCKS + age, lane, ROWS * (TURNS - 1 - age) + 1);
+        }
+    }
+}
+
+/// Four words fill 55 bytes; each lies within the 16 bytes from here, after so many other bits.
+const STARTS: [(usize, u32); 4] = [(0, 0), (13, 6), (27, 4), (39, 18)];
+
 /// The 384 words of a frame with no parity yet: word k of lane p is word i = 32k + p, and word i is
 /// `words[2i]`, `words[2i + 1]`.
 pub fn words(lanes: &[u8; LANES_BYTES]) -> [u64; 2 * FRAME_WORDS] {
-    // Four words fill 55 bytes; each lies within the 16 bytes from here, after so many other bits.
-    const STARTS: [(usize, u32); 4] = [(0, 0), (13, 6), (27, 4), (39, 18)];
     let mut words = [0; 2 * FRAME_WORDS];
     for (p, lane) in lanes.chunks_exact(LANE_BYTES).enumerate() {
         for (third, bytes) in lane.chunks_exact(55).enumerate() {
@@ -124,10 +178,30 @@ pub fn words(lanes: &[u8; LANES_BYTES]) -> [u64; 2 * FRAME_WORDS] {
     words
 }
 
+/// The lanes of 384 words; their parity falls away.
+pub fn lanes_of_words(words: &[u64; 2 * FRAME_WORDS]) -> [u8; LANES_BYTES] {
+    let mut lanes = [0; LANES_BYTES];
+    for (p, lane) in lanes.chunks_exact_mut(LANE_BYTES).enumerate() {
+        for (third, bytes) in lane.chunks_exact_mut(55).enumerate() {
+            let mut last = 0u128;
+            for (w, (start, before)) in STARTS.into_iter().enumerate() {
+                let i = LANES * (4 * third + w) + p;
+                let information = join(words[2 * i], words[2 * i + 1]) >> PARITY_BITS;
+                // The other bits are the end of the word before; none before the first.
+                let others = last.checked_shl(128 - before).unwrap_or(0);
+                let sixteen = others | information << (18 - before);
+                bytes[start..start + 16].copy_from_slice(&sixteen.to_be_bytes());
+                last = information;
+            }
+        }
+    }
+    lanes
+}
+
 #[cfg(test)]
 mod tests {
     use super::*;
-    use crate::word::{join, only_bit, INFORMATION_BITS};
+    use crate::word::{only_bit, INFORMATION_BITS};
     use crate::xorshift::Xorshift;
 
     const LANE_BITS: usize = 8 * LANE_BYTES;
@@ -273,6 +347,100 @@ mod tests {
                     "lane {p}, kept {place}"
                 );
             }
+        }
+    }
+
+    #[test]
+    fn block_rule_of_the_way_back_over_a_run() {
+        const FRAMES: usize = 7;
+        const END: usize = FRAMES * FRAME_BLOCKS;
+        let mut random = Xorshift::new(14);
+        let mut store = [0; STORE_BYTES];
+        let mut came_in = Vec::new();
+        let mut went_out = Vec::new();
+        for _ in 0..FRAMES {
+            let lanes = random_lanes(&mut random);
+            let mut out = random_lanes(&mut random);
+            deinterleave(&lanes, &mut store, &mut out);
+            came_in.push(lanes);
+            went_out.push(out);
+        }
+        let received = |p, n| block(&came_in[n / FRAME_BLOCKS], p, n % FRAME_BLOCKS);
+        let mut fill = 0;
+        for p in 0..LANES {
+            for n in 0..END {
+                let got = block(&went_out[n / FRAME_BLOCKS], p, n % FRAME_BLOCKS);
+                match returned_source(n as u64) {
+                    None => {
+                        assert_eq!(got, [0; 5], "lane {p}, block {n}");
+                        fill += 1;
+                    }
+                    Some(from) => assert_eq!(got, received(p, from as usize), "{p}, {n}"),
+                }
+            }
+            // Kept are the last 12 blocks of row 0, then the last 6 of row 1.
+            let kept = &store[KEPT_BYTES * p..][..KEPT_BYTES];
+            for (place, got) in kept.chunks_exact(BLOCK_BYTES).enumerate() {
+                let n = if place < 12 {
+                    END - 3 - 3 * place
+                } else {
+                    END - 2 - 3 * (place - 12)
+                };
+                assert_eq!(got, received(p, n), "lane {p}, kept {place}");
+            }
+        }
+        assert_eq!(fill, 32 * 18);
+    }
+
+    #[test]
+    fn both_ways_together_are_36_blocks() {
+        for n in 0..1_000u64 {
+            let through = returned_source(n).and_then(block_source);
+            assert_eq!(through, n.checked_sub(36), "block {n}");
+        }
+        let mut random = Xorshift::new(15);
+        let (mut sender, mut receiver) = ([0; STORE_BYTES], [0; STORE_BYTES]);
+        let mut came_in = Vec::new();
+        for frame in 0..7 {
+            came_in.push(random_lanes(&mut random));
+            let (mut sent, mut out) = ([0; LANES_BYTES], [0; LANES_BYTES]);
+            interleave(&came_in[frame], &mut sender, &mut sent);
+            deinterleave(&sent, &mut receiver, &mut out);
+            for p in 0..LANES {
+                for n in 0..FRAME_BLOCKS {
+                    let got = block(&out, p, n);
+                    match (FRAME_BLOCKS * frame + n).checked_sub(36) {
+                        None => assert_eq!(got, [0; 5]),
+                        Some(from) => {
+                            let of_frame = &came_in[from / FRAME_BLOCKS];
+                            assert_eq!(got, block(of_frame, p, from % FRAME_BLOCKS));
+                        }
+                    }
+                }
+            }
+        }
+    }
+
+    #[test]
+    fn lanes_of_words_bit_by_bit() {
+        let mut random = Xorshift::new(16);
+        for _ in 0..20 {
+            // Parity and the two bits above a word must not matter.
+            let mut words = [0; 2 * FRAME_WORDS];
+            words.fill_with(|| random.next_u64());
+            let lanes = lanes_of_words(&words);
+            for k in 0..12 {
+                for p in 0..LANES {
+                    let i = 32 * k + p;
+                    let word = join(words[2 * i], words[2 * i + 1]);
+                    for q in 0..INFORMATION_BITS {
+                        let set = u8::from(word & only_bit(q) != 0);
+                        assert_eq!(bit(&lanes, p, 110 * k + usize::from(q)), set);
+                    }
+                }
+            }
+            let lanes = random_lanes(&mut random);
+            assert!(lanes_of_words(&super::words(&lanes)) == lanes);
         }
     }
 

@@ -1,6 +1,7 @@
 //! The second program: the line's logic in plain Rust, written from the documents, to check and to time the proved code beside it.
 
 pub mod lanes;
+pub mod receive;
 pub mod send;
 pub mod symbols;
 pub mod word;

@@ -41,27 +41,27 @@ pub fn send_with(parity_by_bit: bool, input: &[u8], store: &mut [u8], output: &m
     0
 }
 
-type Bits = Vec<bool>;
+pub(crate) type Bits = Vec<bool>;
 
 /// The earliest bit is the top bit of the first byte.
-fn bits_of(bytes: &[u8]) -> Bits {
+pub(crate) fn bits_of(bytes: &[u8]) -> Bits {
     let number = 0..8 * bytes.len();
     number
         .map(|n| bytes[n / 8] >> (7 - n % 8) & 1 == 1)
         .collect()
 }
 
-fn put_bits(bits: &[bool], bytes: &mut [u8]) {
+pub(crate) fn put_bits(bits: &[bool], bytes: &mut [u8]) {
     bytes.fill(0);
     for (n, &bit) in bits.iter().enumerate() {
         bytes[n / 8] |= u8::from(bit) << (7 - n % 8);
     }
 }
 
-/// The switch and the rows of one lane, a block of 40 bits at a time.
-fn interleave_by_rule(lane: &[bool], kept: &mut [u8]) -> Bits {
+/// The switch and the rows of one lane, a block of 40 bits at a time; so many blocks a row holds.
+pub(crate) fn interleave_by_rule(lane: &[bool], held: [usize; 3], kept: &mut [u8]) -> Bits {
     let mut blocks = kept.chunks(5).map(bits_of);
-    let mut rows: Vec<VecDeque<Bits>> = [0, 6, 12]
+    let mut rows: Vec<VecDeque<Bits>> = held
         .iter()
         .map(|&depth| blocks.by_ref().take(depth).collect())
         .collect();
@@ -114,7 +114,7 @@ pub fn send_by_rule(input: &[u8], store: &mut [u8], output: &mut [u8]) -> u32 {
                 lanes[from][n]
             })
             .collect();
-        let interleaved = interleave_by_rule(&permuted, kept);
+        let interleaved = interleave_by_rule(&permuted, [0, 6, 12], kept);
         let of_lane = interleaved.chunks(110).map(|information| {
             let coded = encode_by_rule(information);
             let mut shuffled = coded.clone();

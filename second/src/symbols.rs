@@ -1,10 +1,10 @@
-//! From the words to the frame: shuffle, mapping, pilots; and the levels of a label.
+//! From the words to the frame and back: shuffle, mapping, pilots; and the levels of a label.
 //!
 //! A frame is 96 rows of a pilot and 63 payload symbols. A symbol is a byte of four labels of two
 //! bits, XI on top, then XQ, YI, YQ, the tributaries 0 to 3.
 
 use crate::lanes::LANES;
-use crate::word::{join, FRAME_WORDS, INFORMATION_BITS, PARITY_BITS};
+use crate::word::{join, split, FRAME_WORDS, INFORMATION_BITS, PARITY_BITS, WORD_BITS};
 
 pub const PILOT_COUNT: usize = 96;
 pub const ROW_SYMBOLS: usize = 64;
@@ -31,6 +31,9 @@ pub const PILOTS: [u8; PILOT_COUNT] = [
     0x02, 0xA2, 0x20, 0x88, 0x20, 0xA2, 0x20, 0x20, 0x2A, 0xAA, 0x8A, 0xAA,
     0x28, 0x88, 0x0A, 0x0A, 0xA8, 0x22, 0x0A, 0x80, 0x88, 0x2A, 0x8A, 0x0A,
 ];
+
+/// A frame in which so many pilots differ, or more, gives no lock.
+pub const NO_LOCK: usize = 25;
 
 pub const fn level(label: u8) -> Option<i8> {
     match label {
@@ -69,6 +72,20 @@ pub const fn frame_place(m: usize) -> usize {
     ROW_SYMBOLS * (m / ROW_PAYLOAD) + 1 + m % ROW_PAYLOAD
 }
 
+/// Where bit `number` of word k of lane p stands in the frame: the symbol, and the bit in it.
+pub const fn bit_place(k: usize, p: usize, number: usize) -> (usize, u8) {
+    let place = if number < INFORMATION_BITS as usize {
+        shuffled_place(p, number)
+    } else {
+        number
+    };
+    let l = ROW_PAYLOAD * (p / ROW_LANES) + place / 2;
+    let t = (p + 4 - source(l, 0).0 % ROW_LANES) % ROW_LANES;
+    let upper = place % 2 == l % 2;
+    let bit = if upper { 0x80 } else { 0x40 };
+    (frame_place(WORD_SYMBOLS * k + l), bit >> (2 * t))
+}
+
 /// The word of lane p with its information bits shuffled and its parity left in place.
 #[inline(always)]
 pub fn shuffle(p: usize, word: u128) -> u128 {
@@ -77,6 +94,16 @@ pub fn shuffle(p: usize, word: u128) -> u128 {
     // Bit 0 is on top, so a bit moves to a higher place by moving down.
     let down = shuffled_place(p, 0) as u32;
     let turned = information >> down | information << (u32::from(INFORMATION_BITS) - down) & MASK;
+    turned << PARITY_BITS | word & 0xFFFF
+}
+
+/// Undoes `shuffle`.
+#[inline(always)]
+pub fn unshuffle(p: usize, word: u128) -> u128 {
+    const MASK: u128 = (1 << INFORMATION_BITS) - 1;
+    let information = word >> PARITY_BITS & MASK;
+    let up = shuffled_place(p, 0) as u32;
+    let turned = (information << up | information >> (u32::from(INFORMATION_BITS) - up)) & MASK;
     turned << PARITY_BITS | word & 0xFFFF
 }
 
@@ -140,10 +167,108 @@ pub fn frame(words: &[u64; 2 * FRAME_WORDS], output: &mut [u8; FRAME_SYMBOLS]) {
     }
 }
 
+/// How many of the 96 pilots are not what table 5 has.
+pub fn wrong_pilots(frame: &[u8; FRAME_SYMBOLS]) -> usize {
+    let rows = frame.chunks_exact(ROW_SYMBOLS);
+    rows.zip(PILOTS)
+        .filter(|(row, pilot)| row[0] != *pilot)
+        .count()
+}
+
+/// Exchanges the bits of `low` at the mask with those of `high` so many places above it.
+#[inline(always)]
+fn exchange(low: &mut u8, high: &mut u8, above: u32, mask: u8) {
+    let difference = (*low ^ *high >> above) & mask;
+    *low ^= difference;
+    *high ^= difference << above;
+}
+
+/// The even bytes and the odd bytes.
+#[inline(always)]
+fn part<const HALF: usize>(bytes: &[u8], even: &mut [u8; HALF], odd: &mut [u8; HALF]) {
+    // One loop for each, and numbers of two bytes: so it is done for many bytes at once.
+    let pair = |two: &[u8]| u16::from_le_bytes(two.try_into().expect("two bytes"));
+    for (even, two) in even.iter_mut().zip(bytes.chunks_exact(2)) {
+        *even = pair(two) as u8;
+    }
+    for (odd, two) in odd.iter_mut().zip(bytes.chunks_exact(2)) {
+        *odd = (pair(two) >> 8) as u8;
+    }
+}
+
+/// Long enough for the labels of a quarter of the payload, four in a byte.
+type Stream = [u8; FRAME_SYMBOLS / 4];
+
+/// Stream r has the label of lane 4g + r of each payload symbol, so word k of that lane is the 126
+/// bits from bit 126(8k + g) on.
+#[inline(always)]
+fn streams(frame: &[u8; FRAME_SYMBOLS]) -> [Stream; ROW_LANES] {
+    let mut payload = [0; FRAME_SYMBOLS];
+    let to = payload.chunks_exact_mut(ROW_PAYLOAD);
+    for (to, row) in to.zip(frame.chunks_exact(ROW_SYMBOLS)) {
+        to.copy_from_slice(&row[1..]);
+    }
+    let (mut even, mut odd) = ([0; FRAME_SYMBOLS / 2], [0; FRAME_SYMBOLS / 2]);
+    part(&payload, &mut even, &mut odd);
+    // XI is of lane 4g + 0, 2, 1, 3 at l mod 4 = 0, 1, 2, 3, so the labels in a byte are to turn by
+    // so many places. The turn by two is made by taking 3 for 1 and 1 for 3.
+    let mut streams = [[0; FRAME_SYMBOLS / 4]; ROW_LANES];
+    let [first, second, third, fourth] = &mut streams;
+    part(&even, first, third);
+    part(&odd, fourth, second);
+    for (((a, b), c), d) in first.iter_mut().zip(second).zip(third).zip(fourth) {
+        let swapped = |byte: u8| (byte & 0xAA) >> 1 | (byte & 0x55) << 1;
+        *b = swapped(*b).rotate_right(2);
+        *c = c.rotate_right(2);
+        *d = swapped(*d);
+        // Four symbols become four labels of each of the four lanes.
+        exchange(a, c, 4, 0x0F);
+        exchange(d, b, 4, 0x0F);
+        exchange(a, b, 2, 0x33);
+        exchange(c, d, 2, 0x33);
+    }
+    streams
+}
+
+/// Eight words of a stream fill 126 bytes: word k of lanes r, 4 + r, and so on.
+const EIGHT_WORDS: usize = 126;
+
+/// The word of lane P; as P is a constant, so is every shift.
+#[inline(always)]
+fn cut<const P: usize>(eight: &[&[u8; EIGHT_WORDS + 1]; ROW_LANES]) -> (u64, u64) {
+    let bytes = eight[P % ROW_LANES];
+    let first = usize::from(WORD_BITS) * (P / ROW_LANES);
+    let (start, before) = (first / 8, first % 8);
+    let next = u128::from(bytes[start + 16]);
+    let bytes: [u8; 16] = bytes[start..start + 16].try_into().expect("16 bytes");
+    let word = u128::from_be_bytes(bytes) << before | next >> (8 - before);
+    split(unshuffle(P, word >> 2))
+}
+
+/// The 384 words of a frame, as `frame` takes them; the pilots do not matter.
+pub fn frame_words(frame: &[u8; FRAME_SYMBOLS]) -> [u64; 2 * FRAME_WORDS] {
+    let streams = streams(frame);
+    let mut words = [0; 2 * FRAME_WORDS];
+    for (k, words) in words.chunks_exact_mut(2 * LANES).enumerate() {
+        let eight = [0, 1, 2, 3].map(|r: usize| {
+            let bytes = &streams[r][EIGHT_WORDS * k..][..EIGHT_WORDS + 1];
+            bytes.try_into().expect("127 bytes")
+        });
+        macro_rules! each {
+            ($($p:literal)*) => {
+                $((words[2 * $p], words[2 * $p + 1]) = cut::<$p>(&eight);)*
+            };
+        }
+        each!(0 1 2 3 4 5 6 7 8 9 10 11 12 13 14 15);
+        each!(16 17 18 19 20 21 22 23 24 25 26 27 28 29 30 31);
+    }
+    words
+}
+
 #[cfg(test)]
 mod tests {
     use super::*;
-    use crate::word::{encode_frame, only_bit, split, WORD_BITS};
+    use crate::word::{encode_frame, only_bit};
     use crate::xorshift::Xorshift;
 
     const WORDS: usize = 2 * FRAME_WORDS;
@@ -349,6 +474,106 @@ mod tests {
                 assert_eq!(got[frame_place(m)], symbol, "payload symbol {m}");
             }
         }
+    }
+
+    #[test]
+    fn unshuffle_undoes_shuffle() {
+        let mut random = Xorshift::new(22);
+        for p in 0..LANES {
+            for number in 0..WORD_BITS {
+                assert_eq!(unshuffle(p, shuffle(p, only_bit(number))), only_bit(number));
+            }
+            let word = random.next_u128() >> 2;
+            assert_eq!(unshuffle(p, shuffle(p, word)), word);
+            assert_eq!(shuffle(p, unshuffle(p, word)), word);
+            // The two bits above the word do not matter.
+            assert_eq!(unshuffle(p, word | 3 << 126), unshuffle(p, word));
+        }
+    }
+
+    #[test]
+    fn frame_words_agree_with_the_rule_on_any_symbols() {
+        let mut random = Xorshift::new(23);
+        for _ in 0..20 {
+            let mut frame = [0; FRAME_SYMBOLS];
+            frame.fill_with(|| random.next_u64() as u8);
+            let mut expected = [0u128; FRAME_WORDS];
+            for m in 0..PAYLOAD_SYMBOLS {
+                let (k, l) = (m / WORD_SYMBOLS, m % WORD_SYMBOLS);
+                let symbol = frame[frame_place(m)];
+                for t in 0..4 {
+                    let (p, places) = source(l, t);
+                    for (lower, place) in places.into_iter().enumerate() {
+                        if symbol >> (7 - 2 * t - lower) & 1 == 1 {
+                            expected[32 * k + p] |= only_bit(bit_before_shuffle(p, place) as u8);
+                        }
+                    }
+                }
+            }
+            let words = frame_words(&frame);
+            for (word, expected) in words.chunks_exact(2).zip(expected) {
+                assert_eq!((word[0], word[1]), split(expected));
+            }
+        }
+    }
+
+    #[test]
+    fn frame_words_undo_frame() {
+        let mut random = Xorshift::new(24);
+        for _ in 0..100 {
+            let words = random_words(&mut random);
+            let mut frame = frame_of(&words);
+            assert!(frame_words(&frame) == words);
+            // Whatever the pilots are.
+            for row in frame.chunks_exact_mut(ROW_SYMBOLS) {
+                row[0] = random.next_u64() as u8;
+            }
+            assert!(frame_words(&frame) == words);
+        }
+    }
+
+    #[test]
+    fn bit_place_agrees_with_the_rule() {
+        for m in 0..PAYLOAD_SYMBOLS {
+            let (k, l) = (m / WORD_SYMBOLS, m % WORD_SYMBOLS);
+            for t in 0..4 {
+                let (p, places) = source(l, t);
+                for (lower, place) in places.into_iter().enumerate() {
+                    let number = bit_before_shuffle(p, place);
+                    let bit = 0x80 >> (2 * t + lower);
+                    assert_eq!(bit_place(k, p, number), (frame_place(m), bit));
+                }
+            }
+        }
+    }
+
+    #[test]
+    fn wrong_pilots_are_counted() {
+        let mut random = Xorshift::new(25);
+        let right = frame_of(&random_words(&mut random));
+        assert_eq!(wrong_pilots(&right), 0);
+        for row in 0..PILOT_COUNT {
+            for difference in 1..=u8::MAX {
+                let mut frame = right;
+                frame[ROW_SYMBOLS * row] ^= difference;
+                assert_eq!(wrong_pilots(&frame), 1);
+            }
+        }
+        let mut frame = right;
+        for row in 0..PILOT_COUNT {
+            assert_eq!(wrong_pilots(&frame), row);
+            frame[ROW_SYMBOLS * row] ^= 1 << random.below(8);
+        }
+        assert_eq!(wrong_pilots(&frame), 96);
+        // The payload does not matter.
+        for (n, symbol) in frame.iter_mut().enumerate() {
+            if n % ROW_SYMBOLS == 0 {
+                *symbol = PILOTS[n / ROW_SYMBOLS];
+            } else {
+                *symbol = random.next_u64() as u8;
+            }
+        }
+        assert_eq!(wrong_pilots(&frame), 0);
     }
 
     #[test]

@@ -157,7 +157,7 @@ flips-alone c e C =
 
 -- ---- what a call answers
 
-mended-lt : (w : ℕ) → w < 2 ^ 126 → mended w (mend w) < 2 ^ 126
+pub mended-lt : (w : ℕ) → w < 2 ^ 126 → mended w (mend w) < 2 ^ 126
 unfolding mended
 mended-lt w h = go (mend w) (mend-answers w)
   where

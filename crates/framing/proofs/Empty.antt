@@ -12,7 +12,8 @@ use Rattle.lanes.specs.Stream.{streamBit, delayed, interleaved}
 use Rattle.lanes.proofs.Bytewise.{permuted-lt, lanes-lt}
 use Rattle.lanes.proofs.Stream.{stored-bit}
 use Rattle.symbols.specs.Frame.{arrived}
-use Rattle.framing.specs.Send.{base, Sends}
+use Rattle.framing.specs.Call.{base}
+use Rattle.framing.specs.Send.{Sends}
 use Rattle.framing.proofs.Sending.{done}
 use Rattle.framing.proofs.Stream.{block-rule}
 

@@ -1,5 +1,8 @@
+pub mod Calls
 pub mod Sending
+pub mod Receiving
 pub mod Stream
+pub mod Received
 pub mod Bench
 pub mod Determined
 pub mod Empty

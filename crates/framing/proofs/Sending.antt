@@ -1,17 +1,16 @@
 -- Laws of one call of sending: the lengths that it leaves, and its outcome from the tests that it makes.
 -- Assumes nothing.
-use mathlib.Core.Path.{_≡_, refl, sym, _∙_}
+use mathlib.Core.Path.{_≡_, sym, _∙_}
 use mathlib.Core.List.{List}
 use Prim.Native.Nat.{ℕ, suc}
-use native.Mathlib.Omega.{arith}
 use lib.ListN.{length}
-use borrow.Author.Tests.{eq-eqb, ne-eqb}
 use Rattle.bits.proofs.Tabulate.{length-tabulate}
 use Rattle.bits.proofs.Fields.{length-bytes}
 use Rattle.lanes.specs.Permutation.{Places}
 use Rattle.lanes.specs.Interleaver.{wovenStore, storeNext}
 use Rattle.symbols.specs.Frame.{frameOf}
-use Rattle.framing.specs.Send.{sentFrame, unless, sendNumber, after, Sends}
+use Rattle.framing.specs.Send.{sentFrame, sendNumber, Sends}
+use Rattle.framing.proofs.Calls.{passed, failed, left, written}
 
 -- ---- lengths
 
@@ -24,12 +23,6 @@ unfolding sentFrame frameOf
 frame-length ex a s = length-tabulate _ _
 
 -- ---- the number, test by test
-
-passed : (n : ℕ) (s : List ℕ) (r t : ℕ) → length s ≡ n → unless n s r t ≡ t
-passed n s r t e = rw (eq-eqb (length s) n e) refl
-
-failed : (n : ℕ) (s : List ℕ) (r t : ℕ) → (length s ≡ n → ⊥) → unless n s r t ≡ r
-failed n s r t e = rw (ne-eqb (length s) n e) refl
 
 module _ (a s o : List ℕ) where
   pub short-lanes : (length a ≡ 5280 → ⊥) → sendNumber a s o ≡ 1
@@ -51,20 +44,10 @@ module _ (a s o : List ℕ) where
 -- ---- the outcome from the number
 
 pub refused : (ex : Places) (a s o : List ℕ) (r : ℕ) → sendNumber a s o ≡ suc r → Sends ex a s o (suc r) s o
-refused ex a s o r e = record { number = sym e; store = sym (old _ s); output = sym (old _ o) }
-  where
-    not-done : sendNumber a s o ≡ 0 → ⊥
-    not-done z = let f : 0 ≡ suc r = sym z ∙ e in omega arith
-
-    old : (new t : List ℕ) → after (sendNumber a s o) new t ≡ t
-    old new t = rw (ne-eqb (sendNumber a s o) 0 not-done) refl
+refused ex a s o r e = record { number = sym e; store = sym (left _ r _ s e); output = sym (left _ r _ o e) }
 
 pub sent : (ex : Places) (a s o s′ o′ : List ℕ) → sendNumber a s o ≡ 0 → s′ ≡ wovenStore ex a s → o′ ≡ sentFrame ex a s → Sends ex a s o 0 s′ o′
-sent ex a s o s′ o′ e p q = record {
-  number = sym e;
-  store = rw e p;
-  output = rw e q;
-}
+sent ex a s o s′ o′ e p q = record { number = sym e; store = p ∙ sym (written _ _ s e); output = q ∙ sym (written _ _ o e) }
 
 -- and the other way: with the right lengths a call is done
 pub done :
@@ -72,4 +55,4 @@ pub done :
     → (r ≡ 0) × (s′ ≡ wovenStore ex a s) × (o′ ≡ sentFrame ex a s)
 done ex a s o r s′ o′ h h′ h″ C =
     let z : sendNumber a s o ≡ 0 = all-lengths a s o h h′ h″ in
-    (C .number ∙ z, C .store ∙ rw z refl, C .output ∙ rw z refl)
+    (C .number ∙ z, C .store ∙ written _ _ s z, C .output ∙ written _ _ o z)

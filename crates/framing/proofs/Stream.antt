@@ -1,10 +1,11 @@
 -- A run of sending, from its calls' outcomes: `BlockRule`.
 -- Assumes nothing.
 use mathlib.Core.Path.{_≡_, refl, sym, ap, ap₂, _∙_, subst}
+use mathlib.Core.Bool.{true}
 use mathlib.Core.List.{List}
 use Prim.Native.Nat.{ℕ, zero, suc, _+_, _*_, _/_, _%_, _^_, _<_}
 use native.Mathlib.Omega.{arith}
-use lib.ListN.{length, length-replicate}
+use lib.ListN.{length, getD, length-replicate}
 use Rattle.bits.specs.Bits.{bitOf, bitAt}
 use Rattle.bits.specs.Words.{wordAt}
 use Rattle.bits.proofs.Words.{row-at}
@@ -18,7 +19,8 @@ use Rattle.lanes.specs.Stream.{streamBit, interleaved, Woven}
 use Rattle.lanes.proofs.LaneWords.{bit-information, information-lt, information-bit, word-information}
 use Rattle.lanes.proofs.Stream.{woven-stream}
 use Rattle.symbols.specs.Frame.{arrived}
-use Rattle.symbols.proofs.Return.{arrived-frame}
+use Rattle.symbols.specs.Pilots.{pilots, locks}
+use Rattle.symbols.proofs.Return.{arrived-frame, frame-pilot, frame-locks}
 use Rattle.framing.specs.Send.{sentFrame}
 use Rattle.framing.specs.Stream.{Sent, BlockRule}
 use Rattle.framing.proofs.Sending.{store-length, done}
@@ -42,6 +44,15 @@ module _ (ex : Places) (a s : List ℕ) (i : ℕ) (h : i < 384) where
   sent-bit q l =
       ap (λ (w : ℕ). bitOf 126 w q) sent-word ∙ bit-information (coded (informationAt (wovenFrame ex a s) i)) q l
       ∙ ap (λ (m : ℕ). bitOf 110 m q) (sent-is-code (informationAt (wovenFrame ex a s) i) (information-lt (wovenFrame ex a s) i) .2)
+
+-- and its pilots are the pilots, so that it locks
+pub sent-pilot : (ex : Places) (a s : List ℕ) (k : ℕ) → k < 96 → getD (sentFrame ex a s) (64 * k) 0 ≡ getD pilots k 0
+unfolding sentFrame
+sent-pilot ex a s k h = frame-pilot (codedFrame (laneWords (wovenFrame ex a s))) k h
+
+pub sent-locks : (ex : Places) (a s : List ℕ) → locks (sentFrame ex a s) 0 ≡ true
+unfolding sentFrame
+sent-locks ex a s = frame-locks (codedFrame (laneWords (wovenFrame ex a s)))
 
 -- ---- a run
 
@@ -67,9 +78,9 @@ module _ (ex : Places) (n : ℕ) (lanes room : ℕ → List ℕ) (numbers : ℕ 
   unfolding Done
   next f h = from-length f h (long f h) .1
 
-  frame : (f : ℕ) → f < n → frames f ≡ sentFrame ex (lanes f) (stores f)
+  pub frame-sent : (f : ℕ) → f < n → frames f ≡ sentFrame ex (lanes f) (stores f)
   unfolding Done
-  frame f h = from-length f h (long f h) .2
+  frame-sent f h = from-length f h (long f h) .2
 
   woven : Woven ex n lanes (λ f. wovenFrame ex (lanes f) (stores f)) stores
   woven = record { fresh = S .fresh; out = λ f h. refl; next = next }
@@ -82,7 +93,7 @@ module _ (ex : Places) (n : ℕ) (lanes room : ℕ → List ℕ) (numbers : ℕ 
       let i = 110 * w + q in
       let fi : f ≡ i / 1320 = omega arith in
       let b : 1320 * p + 110 * (w % 12) + q ≡ 1320 * p + i % 1320 = omega arith in
-      ap (λ (x : List ℕ). bitOf 126 (arrived x (32 * (w % 12) + p)) q) (frame f l)
+      ap (λ (x : List ℕ). bitOf 126 (arrived x (32 * (w % 12) + p)) q) (frame-sent f l)
       ∙ sent-bit ex (lanes f) (stores f) (32 * (w % 12) + p) (omega arith) q hq
       ∙ information-bit (wovenFrame ex (lanes f) (stores f)) (w % 12) p q hp hq
       ∙ ap₂ (λ (g j : ℕ). bitAt (wovenFrame ex (lanes g) (stores g)) j) fi b
@@ -91,6 +102,6 @@ module _ (ex : Places) (n : ℕ) (lanes room : ℕ → List ℕ) (numbers : ℕ 
 pub block-rule : BlockRule
 block-rule ex n lanes room numbers frames stores S = (
   number ex n lanes room numbers frames stores S,
-  λ f i h l. subst (λ (x : List ℕ). CodeWord (arrived x i)) (sym (frame ex n lanes room numbers frames stores S f h)) (sent-code ex (lanes f) (stores f) i l),
+  λ f i h l. subst (λ (x : List ℕ). CodeWord (arrived x i)) (sym (frame-sent ex n lanes room numbers frames stores S f h)) (sent-code ex (lanes f) (stores f) i l),
   carried ex n lanes room numbers frames stores S,
 )

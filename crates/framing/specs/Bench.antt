@@ -9,7 +9,7 @@ use Rattle.bch.specs.Code.{parityOf}
 use Rattle.lanes.specs.Permutation.{Lanes}
 use Rattle.lanes.specs.Stream.{interleaved}
 use Rattle.symbols.specs.Mapping.{place, laneOf, upper, lower, payloadAt}
-use Rattle.framing.specs.Send.{base}
+use Rattle.framing.specs.Call.{base}
 
 -- a row by its number in 01: what the definitions give, and what is printed
 pub record Figure : Type 0 where

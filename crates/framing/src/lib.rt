@@ -1,8 +1,10 @@
-// One call: a frame sent.
+// One call: a frame sent, or a frame received.
 ghost use mathlib.Core.Path.{_≡_};
 ghost use lib.ListN.{length};
 ghost use Rattle.lanes.specs.Interleaver.{wovenStore};
-ghost use Rattle.framing.specs.Send.{base, sentFrame, Sends};
+ghost use Rattle.framing.specs.Call.{base};
+ghost use Rattle.framing.specs.Send.{sentFrame, Sends};
+ghost use Rattle.framing.specs.Receive.{receivedLanes, receivedStore, receivedFlags, Receives};
 
 // The exchanged places of the base: 2 and 3.
 const EXCHANGED: u64 = 12;
@@ -50,5 +52,63 @@ pub fn send(input: &[u8], store: &mut [u8], output: &mut [u8]) -> u32
         return 3;
     }
     send_slices(input, store, output);
+    0
+}
+
+// A frame of symbols through every stage back to lanes; the store becomes what is kept.
+fn receive_frame(
+    frame: &[u8; 6144],
+    store: &mut [u8; 2880],
+    lanes: &mut [u8; 5280],
+    flags: &mut [u8; 384],
+)
+    ensures { λ _. ⌜ (now (lanes .exit) ≡ receivedLanes base (now (frame .entry)) (now (store .entry))) × (now (store .exit) ≡ receivedStore (now (frame .entry)) (now (store .entry))) × (now (flags .exit) ≡ receivedFlags (now (frame .entry))) ⌝ }
+{
+    let mut words = [0u64; 768];
+    symbols::words_from_frame(frame, &mut words);
+    bch::decode_frame(&mut words, flags);
+    let mut woven = [0u8; 5280];
+    lanes::words::to_lanes(&words, &mut woven);
+    lanes::stages::unweave(EXCHANGED, &woven, store, lanes);
+}
+
+// The same over slices of the right lengths.
+fn receive_slices(input: &[u8], store: &mut [u8], output: &mut [u8], flags: &mut [u8])
+    requires { ⌜ (length (now input) ≡ 6144) × (length (now store) ≡ 2880) × (length (now output) ≡ 5280) × (length (now flags) ≡ 384) ⌝ }
+    ensures { λ _. ⌜ (now (output .exit) ≡ receivedLanes base (now (input .entry)) (now (store .entry))) × (now (store .exit) ≡ receivedStore (now (input .entry)) (now (store .entry))) × (now (flags .exit) ≡ receivedFlags (now (input .entry))) ⌝ }
+{
+    let mut frame = [0u8; 6144];
+    bits::copy(input, &mut frame);
+    let mut kept = [0u8; 2880];
+    bits::copy(store, &mut kept);
+    let mut lanes = [0u8; 5280];
+    let mut told = [0u8; 384];
+    receive_frame(&frame, &mut kept, &mut lanes, &mut told);
+    bits::copy(&kept, store);
+    bits::copy(&lanes, output);
+    bits::copy(&told, flags);
+}
+
+// A frame received: 6,144 symbols in, 5,280 bytes of lanes and 384 flag bytes out, and the store kept. A wrong length, or no lock, is refused by its
+// number and changes nothing.
+pub fn receive(input: &[u8], store: &mut [u8], output: &mut [u8], flags: &mut [u8]) -> u32
+    ensures { λ r. ⌜ Receives base (now (input .entry)) (now (store .entry)) (now (output .entry)) (now (flags .entry)) r (now (store .exit)) (now (output .exit)) (now (flags .exit)) ⌝ }
+{
+    if input.len() != 6144 {
+        return 1;
+    }
+    if store.len() != 2880 {
+        return 2;
+    }
+    if output.len() != 5280 {
+        return 3;
+    }
+    if flags.len() != 384 {
+        return 4;
+    }
+    if !symbols::locks(input, 0) {
+        return 5;
+    }
+    receive_slices(input, store, output, flags);
     0
 }

@@ -3,6 +3,7 @@ pub mod Bytewise
 pub mod Frames
 pub mod Rows
 pub mod Stream
+pub mod Return
 pub mod Laying
 pub mod LaneWords
 pub mod Determined

@@ -61,13 +61,14 @@ pilot-there : (f : List ℕ) (i : ℕ) → 64 * i < length f → getD f (64 * i)
 unfolding met
 pilot-there f i h e = rw (zero-add (64 * i), lt-ltb (64 * i) (length f) h, eq-eqb (getD f (64 * i) 0) (getD pilots i 0) e)
 
--- so that an undamaged frame locks
-pub frame-locks : (s : List ℕ) → locks (frameOf s) 0 ≡ true
+-- a frame with the right pilots locks
+pub pilots-lock : (f : List ℕ) → length f ≡ 6144 → ((k : ℕ) → k < 96 → getD f (64 * k) 0 ≡ getD pilots k 0) → locks f 0 ≡ true
 unfolding locks wrongPilots
-frame-locks s = ap (λ (n : ℕ). ltb n lockLimit) (count-none (λ i. not (met (frameOf s) 0 i)) 96 (λ i h. ap not (pilot i h)))
-  where
-    pilot : (i : ℕ) → i < 96 → met (frameOf s) 0 i ≡ true
-    pilot i h = pilot-there (frameOf s) i (rw (frame-length s) (omega arith)) (frame-pilot s i h)
+pilots-lock f long there =
+    ap (λ (n : ℕ). ltb n lockLimit) (count-none (λ i. not (met f 0 i)) 96 (λ i h. ap not (pilot-there f i (rw long (omega arith)) (there i h))))
+
+pub frame-locks : (s : List ℕ) → locks (frameOf s) 0 ≡ true
+frame-locks s = pilots-lock (frameOf s) (frame-length s) (frame-pilot s)
 
 -- ---- a word's bits
 

@@ -1,20 +1,33 @@
-//! Writes calls of sending and what they must give, as binary records to standard output.
+//! Writes calls of sending and of receiving and what they must give, as binary records to standard
+//! output: so many calls of each kind, in turn.
 //!
-//! A record: the lengths (four bytes, big-endian) and bytes of input, store and output before the
-//! call, each length in front of its bytes; then the number returned (four bytes, big-endian), the
-//! store and the output after it, as long as before.
+//! A record: its kind, one byte, 0 sending or 1 receiving; the lengths (four bytes, big-endian) and
+//! bytes of input, store, output and, of receiving only, flags before the call, each length in
+//! front of its bytes; then the number returned (four bytes, big-endian), and the store, the output
+//! and the flags after it, as long as before.
 //!
-//! Of every eight calls six continue one run from a fresh store, one has a random store, and one
-//! has wrong lengths, in turn of the input, the store, both, the output, and so on to all three.
+//! Of every eight calls of sending six continue one run from a fresh store, one has a random store,
+//! and one has wrong lengths, in turn of the input, the store, both, the output, and so on to all.
+//!
+//! Of every eight calls of receiving six continue one run from a fresh store over the frames of the
+//! sender's run: clean, two flips in every word, up to two, twice up to six, and up to six with
+//! wrong pilots. One has in turn a random store, random payload, random symbols without lock, or
+//! both a random store and random payload; and one has wrong lengths in all 15 ways, in turn of a
+//! frame and of random symbols.
 
 use second::lanes::{LANES_BYTES, STORE_BYTES};
+use second::receive::receive;
 use second::send::send;
-use second::symbols::FRAME_SYMBOLS;
+use second::symbols::{bit_place, FRAME_SYMBOLS, PILOTS, PILOT_COUNT, ROW_SYMBOLS};
+use second::word::{FRAME_WORDS, WORD_BITS};
 use second::xorshift::Xorshift;
 use std::io::{self, BufWriter, Write};
 use std::process::ExitCode;
 
 const SEED: u64 = 0x5280_2880_6144_0384;
+
+/// How many pilots are wrong, in turn.
+const WRONG_PILOTS: [usize; 7] = [0, 1, 23, 24, 25, 26, PILOT_COUNT];
 
 fn random_bytes(random: &mut Xorshift, length: usize) -> Vec<u8> {
     (0..length).map(|_| random.next_u64() as u8).collect()
@@ -23,7 +36,7 @@ fn random_bytes(random: &mut Xorshift, length: usize) -> Vec<u8> {
 /// Near misses, the lengths of the other buffers, or any length.
 fn wrong_length(random: &mut Xorshift, right: usize) -> usize {
     loop {
-        let length = match random.below(8) {
+        let length = match random.below(9) {
             0 => 0,
             1 => right - 1,
             2 => right + 1,
@@ -31,6 +44,7 @@ fn wrong_length(random: &mut Xorshift, right: usize) -> usize {
             4 => LANES_BYTES,
             5 => STORE_BYTES,
             6 => FRAME_SYMBOLS,
+            7 => FRAME_WORDS,
             _ => random.below(10_000) as usize,
         };
         if length != right {
@@ -39,43 +53,167 @@ fn wrong_length(random: &mut Xorshift, right: usize) -> usize {
     }
 }
 
+/// The right lengths, but a wrong one where the set has a bit.
+fn lengths<const N: usize>(random: &mut Xorshift, right: [usize; N], wrong: u64) -> [usize; N] {
+    let mut lengths = right;
+    for (which, length) in lengths.iter_mut().enumerate() {
+        if wrong >> which & 1 == 1 {
+            *length = wrong_length(random, *length);
+        }
+    }
+    lengths
+}
+
+/// So many different numbers below the limit.
+fn choose(random: &mut Xorshift, limit: usize, count: usize) -> Vec<usize> {
+    let mut chosen = Vec::new();
+    while chosen.len() < count {
+        let number = random.below(limit as u64) as usize;
+        if !chosen.contains(&number) {
+            chosen.push(number);
+        }
+    }
+    chosen
+}
+
+/// Flips from `least` to `most` bits of every word.
+fn damage_words(random: &mut Xorshift, frame: &mut [u8], least: u64, most: u64) {
+    for word in 0..FRAME_WORDS {
+        let count = least + random.below(most - least + 1);
+        for number in choose(random, usize::from(WORD_BITS), count as usize) {
+            let (symbol, bit) = bit_place(word / 32, word % 32, number);
+            frame[symbol] ^= bit;
+        }
+    }
+}
+
+fn damage_pilots(random: &mut Xorshift, frame: &mut [u8], count: usize) {
+    for number in choose(random, PILOT_COUNT, count) {
+        frame[ROW_SYMBOLS * number] ^= 1 + random.below(255) as u8;
+    }
+}
+
+fn random_payload(random: &mut Xorshift) -> Vec<u8> {
+    let mut frame = random_bytes(random, FRAME_SYMBOLS);
+    for (row, pilot) in frame.chunks_exact_mut(ROW_SYMBOLS).zip(PILOTS) {
+        row[0] = pilot;
+    }
+    frame
+}
+
+/// The stores of the two runs, and the last frame of the sender's.
+struct Runs {
+    sender: Vec<u8>,
+    sent: Vec<u8>,
+    receiver: Vec<u8>,
+}
+
 fn write_sized(out: &mut impl Write, bytes: &[u8]) -> io::Result<()> {
     out.write_all(&(bytes.len() as u32).to_be_bytes())?;
     out.write_all(bytes)
 }
 
+fn write_sending(
+    out: &mut impl Write,
+    random: &mut Xorshift,
+    runs: &mut Runs,
+    call: u64,
+) -> io::Result<()> {
+    let wrong = if call % 8 == 7 { call / 8 % 7 + 1 } else { 0 };
+    let random_store = call % 8 == 3;
+    let lengths = lengths(random, [LANES_BYTES, STORE_BYTES, FRAME_SYMBOLS], wrong);
+    let input = random_bytes(random, lengths[0]);
+    let mut store = random_bytes(random, lengths[1]);
+    if !random_store && lengths[1] == STORE_BYTES {
+        store.clone_from(&runs.sender);
+    }
+    let mut output = random_bytes(random, lengths[2]);
+
+    out.write_all(&[0])?;
+    for bytes in [&input, &store, &output] {
+        write_sized(out, bytes)?;
+    }
+    let number = send(&input, &mut store, &mut output);
+    out.write_all(&number.to_be_bytes())?;
+    for bytes in [&store, &output] {
+        out.write_all(bytes)?;
+    }
+    if !random_store && wrong == 0 {
+        (runs.sender, runs.sent) = (store, output);
+    }
+    Ok(())
+}
+
+fn write_receiving(
+    out: &mut impl Write,
+    random: &mut Xorshift,
+    runs: &mut Runs,
+    call: u64,
+) -> io::Result<()> {
+    let round = call / 8;
+    let mut input = runs.sent.clone();
+    let mut wrong = 0;
+    let mut random_store = false;
+    match call % 8 {
+        0 => {}
+        1 => damage_words(random, &mut input, 2, 2),
+        2 => damage_words(random, &mut input, 0, 2),
+        5 => {
+            damage_words(random, &mut input, 0, 6);
+            damage_pilots(random, &mut input, WRONG_PILOTS[round as usize % 7]);
+        }
+        3 => {
+            random_store = matches!(round % 4, 0 | 3);
+            match round % 4 {
+                0 => damage_words(random, &mut input, 0, 6),
+                2 => input = random_bytes(random, FRAME_SYMBOLS),
+                _ => input = random_payload(random),
+            }
+        }
+        7 => {
+            wrong = round % 15 + 1;
+            if round % 2 == 1 {
+                input = random_bytes(random, FRAME_SYMBOLS);
+            }
+        }
+        _ => damage_words(random, &mut input, 0, 6),
+    }
+    let right = [FRAME_SYMBOLS, STORE_BYTES, LANES_BYTES, FRAME_WORDS];
+    let lengths = lengths(random, right, wrong);
+    input.resize(lengths[0], 0);
+    let mut store = random_bytes(random, lengths[1]);
+    if !random_store && lengths[1] == STORE_BYTES {
+        store.clone_from(&runs.receiver);
+    }
+    let mut output = random_bytes(random, lengths[2]);
+    let mut flags = random_bytes(random, lengths[3]);
+
+    out.write_all(&[1])?;
+    for bytes in [&input, &store, &output, &flags] {
+        write_sized(out, bytes)?;
+    }
+    let number = receive(&input, &mut store, &mut output, &mut flags);
+    out.write_all(&number.to_be_bytes())?;
+    for bytes in [&store, &output, &flags] {
+        out.write_all(bytes)?;
+    }
+    if call % 8 != 3 && call % 8 != 7 {
+        runs.receiver = store;
+    }
+    Ok(())
+}
+
 fn write_calls(count: u64) -> io::Result<()> {
     let mut random = Xorshift::new(SEED);
     let mut out = BufWriter::new(io::stdout().lock());
-    let mut of_run = vec![0; STORE_BYTES];
+    let mut runs = Runs {
+        sender: vec![0; STORE_BYTES],
+        sent: vec![],
+        receiver: vec![0; STORE_BYTES],
+    };
     for call in 0..count {
-        let wrong = if call % 8 == 7 { call / 8 % 7 + 1 } else { 0 };
-        let random_store = call % 8 == 3;
-
-        let mut lengths = [LANES_BYTES, STORE_BYTES, FRAME_SYMBOLS];
-        for (which, length) in lengths.iter_mut().enumerate() {
-            if wrong >> which & 1 == 1 {
-                *length = wrong_length(&mut random, *length);
-            }
-        }
-        let input = random_bytes(&mut random, lengths[0]);
-        let mut store = if random_store || lengths[1] != STORE_BYTES {
-            random_bytes(&mut random, lengths[1])
-        } else {
-            of_run.clone()
-        };
-        let mut output = random_bytes(&mut random, lengths[2]);
-
-        write_sized(&mut out, &input)?;
-        write_sized(&mut out, &store)?;
-        write_sized(&mut out, &output)?;
-        let number = send(&input, &mut store, &mut output);
-        out.write_all(&number.to_be_bytes())?;
-        out.write_all(&store)?;
-        out.write_all(&output)?;
-        if wrong == 0 && !random_store {
-            of_run = store;
-        }
+        write_sending(&mut out, &mut random, &mut runs, call)?;
+        write_receiving(&mut out, &mut random, &mut runs, call)?;
     }
     out.flush()
 }
@@ -86,7 +224,7 @@ fn main() -> ExitCode {
         Some(text) => match text.parse() {
             Ok(count) => count,
             Err(_) => {
-                eprintln!("usage: frames [number of calls]");
+                eprintln!("usage: frames [number of calls of each kind]");
                 return ExitCode::from(2);
             }
         },

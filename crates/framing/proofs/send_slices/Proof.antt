@@ -3,7 +3,8 @@ use mathlib.Core.Path.{sym, ap, ap₂, _∙_}
 use lib.ListN.{length}
 use Rattle.bits.proofs.Filling.{copied-all}
 use Rattle.lanes.specs.Interleaver.{wovenStore}
-use Rattle.framing.specs.Send.{base, sentFrame}
+use Rattle.framing.specs.Call.{base}
+use Rattle.framing.specs.Send.{sentFrame}
 use Rattle.framing.proofs.Sending.{store-length, frame-length}
 use borrow.Author.Needs.{needs}
 use Rattle.framing.proofs.send_slices.Statement.{statement}

@@ -1,0 +1,136 @@
+-- `ReedSolomonBound` and the four pairs: a wrong symbol goes to the word that carries it, which more than two flips hit, and no two of a codeword to one.
+-- Assumes nothing.
+use mathlib.Core.Path.{_≡_, refl, sym, ap, ap₂, _∙_, subst}
+use mathlib.Core.Logic.{_≢_, ⊎-elim}
+use mathlib.Core.Bool.{Bool, true, false, not, _&&_, false≢true}
+use mathlib.Core.List.{List}
+use Prim.Native.Nat.{ℕ, zero, suc, _+_, _*_, _-_, _/_, _%_, _^_, _≤_, _<_}
+use native.Mathlib.Nat.{zero-div}
+use native.Mathlib.Omega.{arith}
+use lib.Dec.{eqb, ltb}
+use lib.Bits.{differ}
+use borrow.Author.Tests.{ltb-true, eqb-true, eqb-false, not-true, lt-ltb, eq-eqb}
+use Rattle.bits.specs.Bits.{bitOf}
+use Rattle.bits.proofs.Count.{count-some, count-pos}
+use Rattle.bch.specs.Code.{distance}
+use Rattle.bch.proofs.Theorems.{two-vanish}
+use Rattle.lanes.specs.Permutation.{Lanes, Places, named}
+use Rattle.lanes.specs.Stream.{streamBit, interleaved, deinterleaved}
+use Rattle.lanes.proofs.Rows.{lt-or-le}
+use Rattle.lanes.proofs.Return.{across, across-lt, carried, fetched}
+use Rattle.symbols.specs.Frame.{arrived}
+use Rattle.symbols.proofs.Return.{arrived-lt}
+use Rattle.framing.specs.Receive.{broughtLanes}
+use Rattle.framing.proofs.Received.{passed, brought-bit}
+use Rattle.demands.specs.Trial.{Trial, Accepted, flipsIn}
+use Rattle.demands.specs.ReedSolomon.{Labels, Labelled, carries, total, heavyWords, wrongSymbol, wrongSymbols, ReedSolomonBound, Bounded, FourPairs}
+use Rattle.demands.proofs.Trial.{differs-by}
+use Rattle.demands.proofs.Totals.{both, left, right, total-inject}
+use Rattle.demands.proofs.Labels.{slot, spans-label, one-a-word}
+
+-- bit k of symbol s stands in the lane that carries it as bit k of symbol slot s, so in word slot s / 11
+placed : (s k : ℕ) → k < 10 → 10 * s + k + 720 * ((10 * s + k) / 40 % 3) ≡ 110 * (slot s / 11) + (10 * (slot s % 11) + k)
+placed s k h =
+    let block : (10 * s + k) / 40 ≡ s / 4 = omega arith in
+    let parts : slot s ≡ 11 * (slot s / 11) + slot s % 11 = omega arith in
+    ap (λ (b : ℕ). 10 * s + k + 720 * (b % 3)) block ∙ omega arith
+
+-- the word that carries a symbol carries a symbol of its codeword
+carries-its : (ex : Places) (label : Labels) (p s : ℕ) → p < 32 → carries ex label (label p s) (across ex p s) (slot s / 11) ≡ true
+unfolding carries
+carries-its ex label p s h =
+    let x : Lanes = λ p i. suc (label p (i / 10)) in
+    let i = 10 * s + 0 in
+    let symbol : i / 10 ≡ s = omega arith in
+    lt-ltb 0 _
+    (count-pos (λ q. eqb (interleaved ex x (across ex p s) (110 * (slot s / 11) + q)) (suc (label p s))) 110 (10 * (slot s % 11) + 0) (omega arith)
+    (eq-eqb _ _
+    (ap₂ (interleaved ex x) (ap (across ex p) (sym symbol)) (sym (placed s 0 (omega arith))) ∙ carried ex x p i h ∙ ap (λ (t : ℕ). suc (label p t)) symbol)))
+
+-- what at most two flips leave of a word is nothing
+left-nothing : (flips : ℕ → List ℕ) (q w k : ℕ) → q < 32 → k < 110 → flipsIn flips q w ≤ 2 → streamBit (λ f. broughtLanes (flips f)) q (110 * w + k) ≡ 0
+unfolding flipsIn passed bitOf
+left-nothing flips q w k hq hk two =
+    let i = 110 * w + k in
+    let e = arrived (flips (w / 12)) (32 * (w % 12) + q) in
+    let frame : i / 1320 ≡ w / 12 = omega arith in
+    let word : 32 * (i % 1320 / 110) + q ≡ 32 * (w % 12) + q = omega arith in
+    brought-bit flips q i hq ∙ ap₂ (λ (f j : ℕ). bitOf 126 (passed (arrived (flips f) j)) (i % 110)) frame word
+    ∙ ap (λ (v : ℕ). bitOf 126 v (i % 110)) (two-vanish e (arrived-lt (flips (w / 12)) (32 * (w % 12) + q)) two) ∙ ap (λ (v : ℕ). v % 2) (zero-div (2 ^ (126 - 1 - i % 110)))
+
+pub differ-none : (x : ℕ) → differ x 0 ≡ x
+differ-none zero = refl
+differ-none (suc x) = refl
+
+module _ {ex : Places} {n : ℕ} {flips lanes room outs flagBuffers : ℕ → List ℕ} (t : Trial ex n flips lanes room outs flagBuffers) (accepted : Accepted t) where
+  -- a symbol carried in a word that at most two flips hit comes back right
+  right-bit : (p s k : ℕ) → p < 32 → s + 144 < 132 * n → k < 10 → flipsIn flips (across ex p s) (slot s / 11) ≤ 2
+      → streamBit (t .back) p (10 * (s + 144) + k) ≡ streamBit (t .cleanBack) p (10 * (s + 144) + k)
+  right-bit p s k hp hs hk two =
+      let i = 10 * s + k in
+      let late : 10 * (s + 144) + k ≡ i + 1440 = omega arith in
+      let symbol : i / 10 ≡ s = omega arith in
+      let left : Lanes = streamBit (λ f. broughtLanes (flips f)) in
+      let none : deinterleaved ex left p (10 * (s + 144) + k) ≡ 0 =
+      ap (deinterleaved ex left p) late ∙ fetched ex left p i ∙ ap₂ left (ap (across ex p) symbol) (placed s k hk)
+      ∙ left-nothing flips (across ex p s) (slot s / 11) (10 * (slot s % 11) + k) (across-lt ex p s hp) (omega arith) two in
+      differs-by t accepted p (10 * (s + 144) + k) hp (omega arith) ∙ ap (differ (streamBit (t .cleanBack) p (10 * (s + 144) + k))) none ∙ differ-none (streamBit (t .cleanBack) p (10 * (s + 144) + k))
+
+  -- so a wrong one was carried in a word that more than two hit
+  wrong-heavy : (p s : ℕ) → p < 32 → s + 144 < 132 * n → wrongSymbol (t .back) (t .cleanBack) p s ≡ true → 2 < flipsIn flips (across ex p s) (slot s / 11)
+  unfolding wrongSymbol
+  wrong-heavy p s hp hs wrong =
+      let r = count-some (λ k. not (eqb (streamBit (t .back) p (10 * (s + 144) + k)) (streamBit (t .cleanBack) p (10 * (s + 144) + k)))) 10 (ltb-true 0 _ wrong) in
+      ⊎-elim (λ (h : 2 < flipsIn flips (across ex p s) (slot s / 11)). h)
+      (λ (h : flipsIn flips (across ex p s) (slot s / 11) ≤ 2).
+      absurd (eqb-false (streamBit (t .back) p (10 * (s + 144) + r .0)) (streamBit (t .cleanBack) p (10 * (s + 144) + r .0)) (not-true _ (r .2)) (right-bit p s (r .0) hp hs (r .1) h)))
+      (lt-or-le 2 (flipsIn flips (across ex p s) (slot s / 11)))
+
+  -- the tests that are counted
+  module _ (label : Labels) (c : ℕ) where
+    abbrev wrong : ℕ → ℕ → Bool
+    wrong p s = ltb (s + 144) (132 * n) && wrongSymbol (t .back) (t .cleanBack) p s && eqb (label p s) c
+
+    abbrev heavy : ℕ → ℕ → Bool
+    heavy p w = ltb 2 (flipsIn flips p w) && carries ex label c p w
+
+    returned : (p s : ℕ) → wrong p s ≡ true → s + 144 < 132 * n
+    returned p s w = ltb-true (s + 144) (132 * n) (left (ltb (s + 144) (132 * n)) _ (left _ (eqb (label p s) c) w))
+
+    symbol-of : (p s : ℕ) → wrong p s ≡ true → label p s ≡ c
+    symbol-of p s w = eqb-true (label p s) c (right (ltb (s + 144) (132 * n) && wrongSymbol (t .back) (t .cleanBack) p s) (eqb (label p s) c) w)
+
+    its-word : (p s : ℕ) → p < 32 → wrong p s ≡ true → (across ex p s < 32) × (slot s / 11 < 12 * n) × (heavy (across ex p s) (slot s / 11) ≡ true)
+    its-word p s hp w =
+        let h : s + 144 < 132 * n = returned p s w in (
+          across-lt ex p s hp,
+          omega arith,
+          both (lt-ltb 2 _ (wrong-heavy p s hp h (right (ltb (s + 144) (132 * n)) _ (left _ (eqb (label p s) c) w))))
+              (subst (λ (d : ℕ). carries ex label d (across ex p s) (slot s / 11) ≡ true) (symbol-of p s w) (carries-its ex label p s hp)),
+        )
+
+    bound : ex 0 ≢ ex 2 → ex 1 ≢ ex 3 → Labelled n label → wrongSymbols n (t .back) (t .cleanBack) label c ≤ heavyWords ex n flips label c
+    unfolding heavyWords wrongSymbols
+    bound even odd L =
+        total-inject wrong (132 * n) heavy (12 * n) (across ex) (λ _ s. slot s / 11) (λ p s hp hs. its-word p s hp)
+        (λ p q s u hp hq hs hu w v. one-a-word ex even odd n label L p q s u hp hq hs hu (symbol-of p s w ∙ sym (symbol-of q u v)))
+
+pub reed-solomon-bound : ReedSolomonBound
+reed-solomon-bound ex even odd n flips lanes room outs flagBuffers t accepted label L c = bound t accepted label c even odd L
+
+-- ---- the four pairs
+
+bounded : (ex : Places) → ex 0 ≢ ex 2 → ex 1 ≢ ex 3 → Bounded ex
+bounded ex even odd n flips lanes room outs flagBuffers t accepted before label S = reed-solomon-bound ex even odd n flips lanes room outs flagBuffers t accepted label (spans-label n before label S)
+
+yes-no : true ≢ false
+yes-no e = false≢true (sym e)
+
+pub four-pairs : FourPairs
+unfolding named
+four-pairs = (
+  bounded (named 12) false≢true false≢true,
+  bounded (named 3) yes-no yes-no,
+  bounded (named 9) yes-no false≢true,
+  bounded (named 6) false≢true yes-no,
+)

@@ -1,0 +1,111 @@
+-- A trial, from its calls' outcomes: what comes back differs from the undamaged by what the flips alone would bring. `FlipsCounted` and `TrialsExist`.
+-- Assumes nothing.
+use mathlib.Core.Path.{_≡_, refl, sym, ap, ap₂, _∙_}
+use mathlib.Core.List.{List}
+use Prim.Native.Nat.{ℕ, zero, suc, _+_, _*_, _/_, _%_, _≤_, _<_}
+use native.Mathlib.Omega.{arith}
+use lib.ListN.{length, getD, replicate}
+use lib.Bits.{differ}
+use Rattle.bch.specs.Code.{CodeWord}
+use Rattle.lanes.specs.Permutation.{Lanes, Places}
+use Rattle.lanes.specs.Interleaver.{wovenStore}
+use Rattle.lanes.specs.Stream.{streamBit, deinterleaved}
+use Rattle.lanes.proofs.Return.{deinterleaved-cong, deinterleaved-zip}
+use Rattle.symbols.specs.Frame.{arrived}
+use Rattle.symbols.specs.Pilots.{pilots}
+use Rattle.framing.specs.Call.{after}
+use Rattle.framing.specs.Send.{sentFrame, sendNumber, Sends}
+use Rattle.framing.specs.Receive.{broughtLanes, receivedLanes, receivedStore, receivedFlags, receiveNumber, Receives}
+use Rattle.framing.specs.Stream.{Sent, Received}
+use Rattle.framing.proofs.Receiving.{lent}
+use Rattle.framing.proofs.Stream.{frame-sent, sent-pilot}
+use Rattle.framing.proofs.Received.{call-done, back-stream}
+use Rattle.demands.specs.Trial.{hit, Trial, Accepted, flipsIn, FlipsCounted, TrialsExist}
+use Rattle.demands.proofs.Hit.{hit-distance, flags-hit, brought-hit}
+use Rattle.demands.proofs.Return.{sent-words, clean-done}
+
+module _ {ex : Places} {n : ℕ} {flips lanes room outs flagBuffers : ℕ → List ℕ} (t : Trial ex n flips lanes room outs flagBuffers) where
+  pub code-words : (f : ℕ) → f < n → (i : ℕ) → i < 384 → CodeWord (arrived (t .frames f) i)
+  code-words = sent-words ex n lanes room (t .sentNumbers) (t .frames) (t .sentStores) (t .sent)
+
+  pub frame-pilots : (f k : ℕ) → f < n → k < 96 → getD (t .frames f) (64 * k) 0 ≡ getD pilots k 0
+  frame-pilots f k h l =
+      ap (λ (x : List ℕ). getD x (64 * k) 0) (frame-sent ex n lanes room (t .sentNumbers) (t .frames) (t .sentStores) (t .sent) f h) ∙ sent-pilot ex (lanes f) (t .sentStores f) k l
+
+  -- the flags of a frame that was not refused are those of the flips
+  pub flags-of-flips : (f : ℕ) → f < n → t .numbers f ≡ 0 → t .flagBytes f ≡ receivedFlags (flips f)
+  flags-of-flips f h e =
+      call-done ex n (λ f. hit (t .frames f) (flips f)) outs flagBuffers (t .numbers) (t .stores) (t .back) (t .flagBytes) (t .received) f h e .2
+      ∙ flags-hit (t .frames f) (flips f) (code-words f h)
+
+  module _ (accepted : Accepted t) where
+    -- then the undamaged frames are not refused either
+    pub clean-accepted : (f : ℕ) → f < n → t .cleanNumbers f ≡ 0
+    clean-accepted f h =
+        let room = lent (hit (t .frames f) (flips f)) (t .stores f) (outs f) (flagBuffers f) (sym (t .received .call f h .number) ∙ accepted f h) in
+        clean-done ex n lanes _ (t .sentNumbers) (t .frames) (t .sentStores) (t .sent) outs flagBuffers (t .cleanNumbers) (t .cleanStores) (t .cleanBack) (t .cleanFlags) (t .undamaged) f h
+        (room .0) (room .1)
+
+    -- what is left of the flips, as lanes: what they would bring if they were frames
+    pub differs-by : (p i : ℕ) → p < 32 → i < 1320 * n
+        → streamBit (t .back) p i ≡ differ (streamBit (t .cleanBack) p i) (deinterleaved ex (streamBit (λ f. broughtLanes (flips f))) p i)
+    differs-by p i hp hi =
+        let left : Lanes = streamBit (λ f. broughtLanes (flips f)) in
+        let clean : Lanes = streamBit (λ f. broughtLanes (t .frames f)) in
+        back-stream ex n (λ f. hit (t .frames f) (flips f)) outs flagBuffers (t .numbers) (t .stores) (t .back) (t .flagBytes) (t .received) accepted p i hp hi
+        ∙ deinterleaved-cong ex (streamBit (λ f. broughtLanes (hit (t .frames f) (flips f)))) (λ p i. differ (clean p i) (left p i)) p i hp
+        (λ q j hq hj. brought-hit (t .frames) flips q j hq (code-words (j / 1320) (omega arith)))
+        ∙ deinterleaved-zip ex differ refl clean left p i
+        ∙ ap (λ (b : ℕ). differ b (deinterleaved ex left p i))
+        (sym (back-stream ex n (t .frames) outs flagBuffers (t .cleanNumbers) (t .cleanStores) (t .cleanBack) (t .cleanFlags) (t .undamaged) clean-accepted p i hp hi))
+
+pub flips-counted : FlipsCounted
+unfolding flipsIn
+flips-counted ex n flips lanes room outs flagBuffers t p w hp hw = hit-distance (t .frames (w / 12)) (flips (w / 12)) (32 * (w % 12) + p) (omega arith)
+
+-- ---- a trial for any lanes, flips and buffers: each call's outcome, one after the other
+
+module _ (ex : Places) (n : ℕ) (flips lanes room outs flagBuffers : ℕ → List ℕ) where
+  senderStores : ℕ → List ℕ
+  senderStores zero = replicate 2880 0
+  senderStores (suc f) = after (sendNumber (lanes f) (senderStores f) (room f)) (wovenStore ex (lanes f) (senderStores f)) (senderStores f)
+
+  sentFrames : ℕ → List ℕ
+  sentFrames f = after (sendNumber (lanes f) (senderStores f) (room f)) (sentFrame ex (lanes f) (senderStores f)) (room f)
+
+  sends : ((f : ℕ) → f < n → (length (lanes f) ≡ 5280) × (length (room f) ≡ 6144)) → Sent ex n lanes room (λ f. sendNumber (lanes f) (senderStores f) (room f)) sentFrames senderStores
+  unfolding senderStores sentFrames
+  sends whole = record { whole = whole; fresh = refl; call = λ f h. record { number = refl; store = refl; output = refl } }
+
+  module _ (frames : ℕ → List ℕ) where
+    receiverStores : ℕ → List ℕ
+    receiverStores zero = replicate 2880 0
+    receiverStores (suc f) =
+        after (receiveNumber (frames f) (receiverStores f) (outs f) (flagBuffers f)) (receivedStore (frames f) (receiverStores f)) (receiverStores f)
+
+    answers : ℕ → ℕ
+    answers f = receiveNumber (frames f) (receiverStores f) (outs f) (flagBuffers f)
+
+    receives : Received ex n frames outs flagBuffers answers receiverStores
+        (λ f. after (answers f) (receivedLanes ex (frames f) (receiverStores f)) (outs f)) (λ f. after (answers f) (receivedFlags (frames f)) (flagBuffers f))
+    unfolding receiverStores answers
+    receives = record { fresh = refl; call = λ f h. record { number = refl; store = refl; output = refl; flags = refl } }
+
+pub trials-exist : TrialsExist
+trials-exist ex n flips lanes room outs flagBuffers whole =
+    record {
+      sentNumbers = _;
+      frames = _;
+      sentStores = _;
+      sent = sends ex n flips lanes room outs flagBuffers whole;
+      numbers = _;
+      stores = _;
+      back = _;
+      flagBytes = _;
+      received = receives ex n flips lanes room outs flagBuffers (λ f. hit (sentFrames ex n flips lanes room outs flagBuffers f) (flips f));
+      cleanNumbers = _;
+      cleanStores = _;
+      cleanBack = _;
+      cleanFlags = _;
+      undamaged = receives ex n flips lanes room outs flagBuffers (sentFrames ex n flips lanes room outs flagBuffers);
+    }

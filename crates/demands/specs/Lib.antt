@@ -1,0 +1,4 @@
+pub mod Return
+pub mod Trial
+pub mod OneForAll
+pub mod ReedSolomon

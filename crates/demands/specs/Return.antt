@@ -1,0 +1,37 @@
+-- Demand 2: an undamaged stream from fresh states comes back 36 blocks later in every lane, behind 36 blocks of zeros, whole but for the last 36 blocks.
+-- Assumes nothing.
+use mathlib.Core.Path.{_≡_}
+use mathlib.Core.List.{List}
+use Prim.Native.Nat.{ℕ, _+_, _*_, _<_}
+use lib.ListN.{length, replicate}
+use Rattle.lanes.specs.Permutation.{Places}
+use Rattle.lanes.specs.Stream.{streamBit}
+use Rattle.framing.specs.Stream.{Sent, Received}
+
+-- n frames sent, and received as they were sent, with room for the lanes and the flags of each
+pub record Undamaged (ex : Places) (n : ℕ) (lanes : ℕ → List ℕ) (sentNumbers numbers : ℕ → ℕ) (back flagBytes : ℕ → List ℕ) : Type 0 where
+  pub room : ℕ → List ℕ
+  pub frames : ℕ → List ℕ
+  pub sentStores : ℕ → List ℕ
+  pub sent : Sent ex n lanes room sentNumbers frames sentStores
+  pub outs : ℕ → List ℕ
+  pub flagBuffers : ℕ → List ℕ
+  pub lent : (f : ℕ) → f < n → (length (outs f) ≡ 5280) × (length (flagBuffers f) ≡ 384)
+  pub stores : ℕ → List ℕ
+  pub received : Received ex n frames outs flagBuffers numbers stores back flagBytes
+
+-- no call is refused, every flag is 0, the first 36 blocks of every lane (1,440 bits) are zeros, and bit i of a lane comes back as its bit i + 1,440
+abbrev pub Return : Type 0
+Return =
+    (ex : Places) (n : ℕ) (lanes : ℕ → List ℕ) (sentNumbers numbers : ℕ → ℕ) (back flagBytes : ℕ → List ℕ)
+    → Undamaged ex n lanes sentNumbers numbers back flagBytes
+    → ((f : ℕ) → f < n → (sentNumbers f ≡ 0) × (numbers f ≡ 0))
+    × ((f : ℕ) → f < n → flagBytes f ≡ replicate 384 0)
+    × ((p i : ℕ) → p < 32 → i < 1440 → i < 1320 * n → streamBit back p i ≡ 0)
+    × ((p i : ℕ) → p < 32 → i + 1440 < 1320 * n → streamBit back p (i + 1440) ≡ streamBit lanes p i)
+
+-- a stream of one frame comes back as 33 blocks of zeros in every lane
+abbrev pub OneFrame : Type 0
+OneFrame =
+    (ex : Places) (lanes : ℕ → List ℕ) (sentNumbers numbers : ℕ → ℕ) (back flagBytes : ℕ → List ℕ)
+    → Undamaged ex 1 lanes sentNumbers numbers back flagBytes → back 0 ≡ replicate 5280 0

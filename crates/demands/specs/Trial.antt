@@ -1,0 +1,54 @@
+-- A trial of demand 3: lanes sent from a fresh store, bits of the sent frames flipped, and what a fresh receiver makes of the frames.
+-- Assumes nothing.
+use mathlib.Core.Path.{_≡_}
+use mathlib.Core.List.{List}
+use Prim.Native.Nat.{ℕ, _+_, _*_, _/_, _%_, _<_}
+use lib.ListN.{length, getD}
+use lib.Bits.{bitXor}
+use Rattle.bits.specs.Bits.{tabulate}
+use Rattle.bch.specs.Code.{distance}
+use Rattle.lanes.specs.Permutation.{Places}
+use Rattle.symbols.specs.Frame.{arrived}
+use Rattle.framing.specs.Stream.{Sent, Received}
+
+-- a frame with bits flipped: those that are set in the flips
+unfoldable pub hit : List ℕ → List ℕ → List ℕ
+hit frame flips = tabulate 6144 (λ t. bitXor (getD frame t 0) (getD flips t 0))
+
+-- n frames of lanes are sent, hit by the flips, and received with the output and the flags lent to each call; and received undamaged, with the same
+pub record Trial (ex : Places) (n : ℕ) (flips lanes room outs flagBuffers : ℕ → List ℕ) : Type 0 where
+  pub sentNumbers : ℕ → ℕ
+  pub frames : ℕ → List ℕ
+  pub sentStores : ℕ → List ℕ
+  pub sent : Sent ex n lanes room sentNumbers frames sentStores
+  pub numbers : ℕ → ℕ
+  pub stores : ℕ → List ℕ
+  pub back : ℕ → List ℕ
+  pub flagBytes : ℕ → List ℕ
+  pub received : Received ex n (λ f. hit (frames f) (flips f)) outs flagBuffers numbers stores back flagBytes
+  pub cleanNumbers : ℕ → ℕ
+  pub cleanStores : ℕ → List ℕ
+  pub cleanBack : ℕ → List ℕ
+  pub cleanFlags : ℕ → List ℕ
+  pub undamaged : Received ex n frames outs flagBuffers cleanNumbers cleanStores cleanBack cleanFlags
+
+-- no frame was refused
+abbrev pub Accepted : {ex : Places} {n : ℕ} {flips lanes room outs flagBuffers : ℕ → List ℕ} → Trial ex n flips lanes room outs flagBuffers → Type 0
+Accepted {n = n} t = (f : ℕ) → f < n → t .numbers f ≡ 0
+
+-- by how many flips word w of lane p, counted over the stream, is hit: in so many bits the word that the flips make differs from 0
+unfoldable pub flipsIn : (ℕ → List ℕ) → ℕ → ℕ → ℕ
+flipsIn flips p w = distance (arrived (flips (w / 12)) (32 * (w % 12) + p)) 0
+
+-- and in so many the word that arrives differs from the word sent
+abbrev pub FlipsCounted : Type 0
+FlipsCounted =
+    (ex : Places) (n : ℕ) (flips lanes room outs flagBuffers : ℕ → List ℕ) (t : Trial ex n flips lanes room outs flagBuffers)
+    → (p w : ℕ) → p < 32 → w < 12 * n
+    → flipsIn flips p w ≡ distance (arrived (hit (t .frames (w / 12)) (flips (w / 12))) (32 * (w % 12) + p)) (arrived (t .frames (w / 12)) (32 * (w % 12) + p))
+
+-- there is a trial for any whole lanes, any flips and any buffers
+abbrev pub TrialsExist : Type 0
+TrialsExist =
+    (ex : Places) (n : ℕ) (flips lanes room outs flagBuffers : ℕ → List ℕ)
+    → ((f : ℕ) → f < n → (length (lanes f) ≡ 5280) × (length (room f) ≡ 6144)) → Trial ex n flips lanes room outs flagBuffers

@@ -1,0 +1,84 @@
+-- Laws of one call of receiving: the lengths that it leaves, and its outcome from the tests that it makes.
+-- Assumes nothing.
+use mathlib.Core.Path.{_≡_, sym, _∙_}
+use mathlib.Core.Bool.{cond}
+use mathlib.Core.List.{List}
+use Prim.Native.Nat.{ℕ, suc}
+use lib.ListN.{length}
+use Rattle.bits.proofs.Tabulate.{length-tabulate}
+use Rattle.bits.proofs.Fields.{Bytes, length-bytes}
+use Rattle.lanes.specs.Permutation.{Places, permuted, lanesOf, frameOf}
+use Rattle.lanes.specs.Interleaver.{receiver, woven, storeNext, unwovenFrame, unwovenStore}
+use Rattle.lanes.proofs.Bytewise.{frame-bytes, permuted-lt, woven-lt, lanes-lt}
+use Rattle.bch.specs.Word.{flagsOf}
+use Rattle.symbols.specs.Pilots.{locks}
+use Rattle.framing.specs.Receive.{broughtLanes, receivedLanes, receivedStore, receivedFlags, receiveNumber, Receives}
+use Rattle.framing.proofs.Calls.{passed, failed, passes, left, written}
+
+-- ---- lengths
+
+pub store-length : (f s : List ℕ) → length (receivedStore f s) ≡ 2880
+unfolding unwovenStore storeNext
+store-length f s = length-bytes _ _
+
+pub lanes-length : (ex : Places) (f s : List ℕ) → length (receivedLanes ex f s) ≡ 5280
+unfolding unwovenFrame frameOf
+lanes-length ex f s = length-bytes _ _
+
+pub lanes-bytes : (ex : Places) (f s : List ℕ) → Bytes (receivedLanes ex f s)
+unfolding unwovenFrame
+lanes-bytes ex f s =
+    let x = woven receiver s (lanesOf (broughtLanes f)) in
+    frame-bytes (permuted ex x) (permuted-lt ex x (woven-lt receiver s (lanesOf (broughtLanes f)) (lanes-lt (broughtLanes f))))
+
+pub flags-length : (f : List ℕ) → length (receivedFlags f) ≡ 384
+unfolding receivedFlags flagsOf
+flags-length f = length-tabulate _ _
+
+-- ---- the number, test by test
+
+module _ (f s o g : List ℕ) where
+  pub short-frame : (length f ≡ 6144 → ⊥) → receiveNumber f s o g ≡ 1
+  unfolding receiveNumber
+  short-frame h = failed 6144 f _ _ h
+
+  pub short-store : length f ≡ 6144 → (length s ≡ 2880 → ⊥) → receiveNumber f s o g ≡ 2
+  unfolding receiveNumber
+  short-store h h′ = passed 6144 f _ _ h ∙ failed 2880 s _ _ h′
+
+  pub short-lanes : length f ≡ 6144 → length s ≡ 2880 → (length o ≡ 5280 → ⊥) → receiveNumber f s o g ≡ 3
+  unfolding receiveNumber
+  short-lanes h h′ h″ = passed 6144 f _ _ h ∙ passed 2880 s _ _ h′ ∙ failed 5280 o _ _ h″
+
+  pub short-flags : length f ≡ 6144 → length s ≡ 2880 → length o ≡ 5280 → (length g ≡ 384 → ⊥) → receiveNumber f s o g ≡ 4
+  unfolding receiveNumber
+  short-flags h h′ h″ h‴ = passed 6144 f _ _ h ∙ passed 2880 s _ _ h′ ∙ passed 5280 o _ _ h″ ∙ failed 384 g _ _ h‴
+
+  -- with the right lengths, lock decides
+  pub all-lengths : length f ≡ 6144 → length s ≡ 2880 → length o ≡ 5280 → length g ≡ 384 → receiveNumber f s o g ≡ cond (locks f 0) 0 5
+  unfolding receiveNumber
+  all-lengths h h′ h″ h‴ = passed 6144 f _ _ h ∙ passed 2880 s _ _ h′ ∙ passed 5280 o _ _ h″ ∙ passed 384 g _ _ h‴
+
+  -- and an answer of 0 says that the lengths were right
+  pub lent : receiveNumber f s o g ≡ 0 → (length o ≡ 5280) × (length g ≡ 384)
+  unfolding receiveNumber
+  lent e = let rest = passes 2880 s 1 _ (passes 6144 f 0 _ e .1) in let more = passes 5280 o 2 _ (rest .1) in (more .0, passes 384 g 3 _ (more .1) .0)
+
+-- ---- the outcome from the number
+
+pub refused : (ex : Places) (f s o g : List ℕ) (r : ℕ) → receiveNumber f s o g ≡ suc r → Receives ex f s o g (suc r) s o g
+refused ex f s o g r e = record { number = sym e; store = sym (left _ r _ s e); output = sym (left _ r _ o e); flags = sym (left _ r _ g e) }
+
+pub received :
+    (ex : Places) (f s o g s′ o′ g′ : List ℕ) → receiveNumber f s o g ≡ 0
+    → s′ ≡ receivedStore f s → o′ ≡ receivedLanes ex f s → g′ ≡ receivedFlags f → Receives ex f s o g 0 s′ o′ g′
+received ex f s o g s′ o′ g′ e p q h =
+    record { number = sym e; store = p ∙ sym (written _ _ s e); output = q ∙ sym (written _ _ o e); flags = h ∙ sym (written _ _ g e) }
+
+-- and the other way: a call that answered 0 is done
+pub done :
+    (ex : Places) (f s o g : List ℕ) (r : ℕ) (s′ o′ g′ : List ℕ) → r ≡ 0 → Receives ex f s o g r s′ o′ g′
+    → (s′ ≡ receivedStore f s) × (o′ ≡ receivedLanes ex f s) × (g′ ≡ receivedFlags f)
+done ex f s o g r s′ o′ g′ e C =
+    let z : receiveNumber f s o g ≡ 0 = sym (C .number) ∙ e in
+    (C .store ∙ written _ _ s z, C .output ∙ written _ _ o z, C .flags ∙ written _ _ g z)
