@@ -1,9 +1,10 @@
-//! The proved word code and sending beside this program's, in one run: first both make the same calls, then each is timed.
+//! The proved word code, sending and receiving beside this program's, in one run: first both make the same calls, then each is timed.
 //! Linked against the archive that `run` builds.
 
-use second::lanes::{interleave, permute, words, EXCHANGED, LANES_BYTES, STORE_BYTES};
+use second::lanes::{deinterleave, interleave, lanes_of_words, permute, words, EXCHANGED, LANES_BYTES, STORE_BYTES};
+use second::receive::receive_with;
 use second::send::send_with;
-use second::symbols::{frame as frame_of, FRAME_SYMBOLS};
+use second::symbols::{bit_place, frame as frame_of, frame_words, wrong_pilots, FRAME_SYMBOLS};
 use second::word::{encode, join, only_bit, split, Decoder};
 use second::xorshift::Xorshift;
 use std::hint::black_box;
@@ -15,8 +16,16 @@ extern "C" {
     fn proved_weave(lanes: *const Lanes, store: *mut Store, out: *mut Lanes);
     fn proved_to_words(lanes: *const Lanes, words: *mut Words);
     fn proved_frame_from_words(words: *const Words, frame: *mut Frame);
+    fn proved_words_from_frame(frame: *const Frame, words: *mut Words);
+    fn proved_to_lanes(words: *const Words, lanes: *mut Lanes);
+    fn proved_unweave(lanes: *const Lanes, store: *mut Store, out: *mut Lanes);
+    fn proved_locks(symbols: *const u8, length: usize) -> u32;
     fn proved_send(
         input: *const u8, input_length: usize, store: *mut u8, store_length: usize, output: *mut u8, output_length: usize,
+    ) -> u32;
+    fn proved_receive(
+        input: *const u8, input_length: usize, store: *mut u8, store_length: usize, output: *mut u8, output_length: usize, flags: *mut u8,
+        flags_length: usize,
     ) -> u32;
 }
 
@@ -177,6 +186,120 @@ fn sending() {
     row("shuffle, map and pilots", mine, plain);
 }
 
+/// 1,000 frames of a run, each word of each frame hit by as many flips as told.
+fn received_frames(random: &mut Xorshift, flips: u32) -> Vec<Frame> {
+    let mut store = [0; STORE_BYTES];
+    (0..1000)
+        .map(|_| {
+            let mut lanes = [0; LANES_BYTES];
+            lanes.fill_with(|| random.next_u64() as u8);
+            let mut frame = [0; FRAME_SYMBOLS];
+            send_with(true, &lanes, &mut store, &mut frame);
+            for word in 0..384 {
+                let mut hit = 0u128;
+                while hit.count_ones() < flips {
+                    hit |= 1 << random.below(126);
+                }
+                for number in (0..126).filter(|n| hit >> n & 1 == 1) {
+                    let (symbol, bit) = bit_place(word / 32, word % 32, number);
+                    frame[symbol] ^= bit;
+                }
+            }
+            frame
+        })
+        .collect()
+}
+
+/// Runs of 1,000 frames received, from a fresh store: compared, then timed, whole and by stages.
+fn receiving() {
+    let mut random = Xorshift::new(803);
+    let decoder = Decoder::new();
+    let proved = |input: &Frame, store: &mut Store, output: &mut Lanes, flags: &mut [u8; 384]| unsafe {
+        proved_receive(
+            input.as_ptr(), input.len(), store.as_mut_ptr(), store.len(), output.as_mut_ptr(), output.len(), flags.as_mut_ptr(), flags.len(),
+        )
+    };
+    let (mut s, mut t) = ([0; STORE_BYTES], [0; STORE_BYTES]);
+    let (mut a, mut b) = ([0; LANES_BYTES], [0; LANES_BYTES]);
+    let (mut f, mut g) = ([0; 384], [0; 384]);
+    let runs: Vec<(u32, Vec<Frame>)> = [0, 1, 2, 3].iter().map(|&flips| (flips, received_frames(&mut random, flips))).collect();
+    for (flips, frames) in &runs {
+        for frame in frames {
+            assert!(proved(frame, &mut s, &mut a, &mut f) == 0 && receive_with(&decoder, frame, &mut t, &mut b, &mut g) == 0, "refused");
+            assert!(s == t && a == b && f == g && f == [*flips as u8; 384], "lanes, stores or flags differ");
+        }
+    }
+    println!("runs of 1,000 frames received with none to three flips a word: the same lanes, stores and flags");
+
+    println!("microseconds a frame        proved   this program");
+    for (flips, frames) in &runs {
+        let whole = time_run(|k| {
+            proved(&frames[k], &mut s, &mut a, &mut f);
+            black_box((&mut s, &mut a, &mut f));
+        });
+        let plain = time_run(|k| {
+            receive_with(&decoder, &frames[k], &mut t, &mut b, &mut g);
+            black_box((&mut t, &mut b, &mut g));
+        });
+        row(["receive, clean", "receive, one flip", "receive, two flips", "receive, three flips"][*flips as usize], whole, plain);
+    }
+
+    let frames = &runs[0].1;
+    let mine = time_run(|k| {
+        black_box(unsafe { proved_locks(frames[k].as_ptr(), frames[k].len()) });
+    });
+    let plain = time_run(|k| {
+        black_box(wrong_pilots(&frames[k]));
+    });
+    row("lock", mine, plain);
+
+    let mut w = [0; 768];
+    let mine = time_run(|k| {
+        unsafe { proved_words_from_frame(&frames[k], &mut w) };
+        black_box(&mut w);
+    });
+    let plain = time_run(|k| {
+        black_box(&mut frame_words(&frames[k]));
+    });
+    row("unmap and unshuffle", mine, plain);
+
+    let words_of: Vec<Words> = frames.iter().map(frame_words).collect();
+    for (name, words_of) in [("decode, clean", words_of.clone()), ("decode, two flips", runs[2].1.iter().map(frame_words).collect())] {
+        let mine = time_run(|k| {
+            let mut w = words_of[k];
+            unsafe { proved_decode_frame(&mut w, &mut f) };
+            black_box((&mut w, &mut f));
+        });
+        let plain = time_run(|k| {
+            let mut w = words_of[k];
+            decoder.decode_frame(&mut w, &mut g);
+            black_box((&mut w, &mut g));
+        });
+        row(name, mine, plain);
+    }
+
+    let mine = time_run(|k| {
+        unsafe { proved_to_lanes(&words_of[k], &mut a) };
+        black_box(&mut a);
+    });
+    let plain = time_run(|k| {
+        black_box(&mut lanes_of_words(&words_of[k]));
+    });
+    row("words to lanes", mine, plain);
+
+    let lanes_of: Vec<Lanes> = words_of.iter().map(lanes_of_words).collect();
+    let mine = time_run(|k| {
+        unsafe { proved_unweave(&lanes_of[k], &mut s, &mut a) };
+        black_box((&mut s, &mut a));
+    });
+    let plain = time_run(|k| {
+        deinterleave(&lanes_of[k], &mut t, &mut b);
+        permute(&mut b, EXCHANGED);
+        black_box((&mut t, &mut b));
+    });
+    row("unweave and permute", mine, plain);
+}
+
 fn main() {
     compare(2000);
     let decoder = Decoder::new();
@@ -200,4 +323,5 @@ fn main() {
     let table = time(&frames, |w, _| second::word::encode_frame(w));
     println!("{:24} {proved:9.1} {bits:14.1}   (by table {table:.1})", "encode, bit by bit");
     sending();
+    receiving();
 }
