@@ -1,19 +1,20 @@
--- The remainder worked out in pieces: by 32 bits with four look-ups, by two halves, and of the information times x^16.
+-- The remainder worked out in pieces: bit by bit, of the information times x^16; and by digits of 16 bits, two look-ups each.
 -- Assumes nothing.
 use mathlib.Core.Path.{_≡_, refl, sym, ap, ap₂, _∙_, subst}
 use mathlib.Core.List.{List}
 use Prim.Native.Nat.{ℕ, zero, suc, _+_, _-_, _*_, _/_, _%_, _^_, _<_, _≤_}
-use native.Mathlib.Nat.{mod-lt, div-add-mod', div-div-eq-div-mul, pow-suc, suc-sub-suc, sub-zero}
+use native.Mathlib.Nat.{mod-lt, add-zero, zero-mul, div-one, div-div-eq-div-mul, pow-suc, suc-sub-suc, sub-zero}
 use native.Mathlib.Omega.{arith}
 use lib.Arith.{digits-lt}
 use lib.Dec.{lit<, lit≤}
 use lib.ListN.{getD}
-use lib.Bits.{bitXor}
+use lib.Pow.{pow-pos, shr-shr, high, low, field, mod-mod-pow}
+use lib.Bits.{bitXor, xor-comm, xor-shifted}
 use Rattle.bch.specs.Code.{stepOf, feedOf, remainder, parityOf}
 use Rattle.bits.specs.Words.{wordOf}
 use Rattle.bch.specs.Word.{informationOf}
-use Rattle.bch.specs.Tables.{IsFold}
-use Rattle.bch.proofs.Remainder.{feed-lt, feed-append, feed-low, remainder-above, remainder-own, remainder-lead}
+use Rattle.bch.specs.Tables.{IsRemainders}
+use Rattle.bch.proofs.Remainder.{feed-lt, feed-append, feed-xor, feed-plain, feed-low, remainder-above, remainder-own, remainder-lead}
 
 -- ---- bit by bit
 
@@ -63,47 +64,69 @@ parity-law hi lo t u r h et eu er =
     all : hi % 2 ^ 62 * 2 ^ 64 + lo / 2 ^ 16 * 2 ^ 16 ≡ informationOf (wordOf hi lo) * 2 ^ 16
     all = let e = information-is hi lo h in omega arith
 
--- ---- by 32 bits
+-- ---- by digits of 16 bits
 
-pub fold-law : (t : List ℕ) → IsFold t → (r w a b c d : ℕ) → r < 65536 → w < 2 ^ 32
-    → a ≡ getD t (w / 65536 % 256) 0 → b ≡ getD t (256 + w / 16777216) 0 → c ≡ getD t (512 + r % 256) 0 → d ≡ getD t (768 + r / 256) 0
-    → bitXor (bitXor (bitXor (bitXor (w % 65536) a) b) c) d ≡ feedOf r 32 w
-fold-law t T r w a b c d hr hw ea eb ec ed =
-    ap₂ bitXor
-    (ap₂ bitXor
-    (ap₂ bitXor (ap₂ bitXor low (at 0 (w / 65536 % 256) (w / 65536 % 256) (lit< tt) ea (omega arith) (omega arith)))
-    (at 1 (256 + w / 16777216) (w / 16777216) (lit< tt) eb (omega arith) (omega arith)))
-    (at 2 (512 + r % 256) (r % 256) (lit< tt) ec (omega arith) (omega arith)))
-    (at 3 (768 + r / 256) (r / 256) (lit< tt) ed (omega arith) (omega arith))
-    ∙ sym (more 3 (more 2 (more 1 (more 0 refl)))) ∙ sym (ap (λ (x : ℕ). feedOf x 32 w) (sym (remainder-own r hr)) ∙ feed-append 0 16 32 r w hw)
+-- a digit from its two bytes
+pub digit-law : (t : List ℕ) → IsRemainders t → (k w a b : ℕ) → k < 7 → a ≡ getD t (512 * k + w % 256) 0 → b ≡ getD t (512 * k + 256 + w / 256 % 256) 0
+    → bitXor a b ≡ feedOf (w % 65536) (16 * k + 16) 0
+digit-law t T k w a b h ea eb =
+    ap₂ bitXor (ea ∙ at (2 * k) (512 * k + w % 256) (w % 256) (omega arith) (omega arith) (omega arith) ∙ ap (λ (n : ℕ). feedOf (w % 256) n 0) even)
+    (eb ∙ at (2 * k + 1) (512 * k + 256 + w / 256 % 256) (w / 256 % 256) (omega arith) (omega arith) (omega arith) ∙ ap (λ (n : ℕ). feedOf (w / 256 % 256) n 0) odd)
+    ∙ ap (bitXor (feedOf (w % 256) (16 * k + 16) 0)) above
+    ∙ sym (feed-xor (w % 256) (w / 256 % 256 * 256) (16 * k + 16) 0 0 (omega arith) (omega arith)) ∙ ap (λ (r : ℕ). feedOf r (16 * k + 16) 0) whole
   where
-    -- the remainder and the bits below it, as one number
-    n : ℕ
-    n = r * 2 ^ 32 + w
+    at : (p i b : ℕ) → p < 14 → i ≡ 256 * p + b → b < 256 → getD t i 0 ≡ feedOf b (8 * p + 16) 0
+    at p i b h e l = ap (λ (i : ℕ). getD t i 0) e ∙ T .entry p b h l
 
-    -- its byte that is 8 p places above the two lowest
-    byte : ℕ → ℕ
-    byte p = n / 2 ^ (8 * p + 16) % 2 ^ 8
+    even : 8 * (2 * k) + 16 ≡ 16 * k + 16
+    even = omega arith
 
-    at : (p k b : ℕ) {x : ℕ} → p < 4 → x ≡ getD t k 0 → k ≡ 256 * p + b → b ≡ byte p → x ≡ feedOf (byte p) (8 * p + 16) 0
-    at p k b h e q f =
-        let l : b < 256 = rw f (mod-lt (n / 2 ^ (8 * p + 16)) (lit< tt)) in
-        e ∙ ap (λ (i : ℕ). getD t i 0) q ∙ T .entry p b h l ∙ ap (λ (i : ℕ). feedOf i (8 * p + 16) 0) f
+    odd : 8 * (2 * k + 1) + 16 ≡ 8 + (16 * k + 16)
+    odd = omega arith
 
-    more : (p : ℕ) {x : ℕ} → remainder (8 * p + 16) n ≡ x → remainder (8 + (8 * p + 16)) n ≡ bitXor x (feedOf (byte p) (8 * p + 16) 0)
-    more p e = remainder-above 8 (8 * p + 16) n (lit≤ tt) ∙ ap (λ (x : ℕ). bitXor x (feedOf (byte p) (8 * p + 16) 0)) e
+    -- the upper byte stands eight places higher
+    above : feedOf (w / 256 % 256) (8 + (16 * k + 16)) 0 ≡ feedOf (w / 256 % 256 * 256) (16 * k + 16) 0
+    above =
+        let fits : (w / 256 % 256 + 1) * 2 ^ 8 ≤ 65536 = omega arith in
+        let plain : feedOf (w / 256 % 256) 8 0 ≡ w / 256 % 256 * 256 = feed-plain (w / 256 % 256) 8 0 fits (lit< tt) ∙ add-zero (w / 256 % 256 * 256) in
+        sym (ap (λ (r : ℕ). feedOf r (16 * k + 16) 0) (sym plain) ∙ feed-append (w / 256 % 256) 8 (16 * k + 16) 0 0 (pow-pos (16 * k + 16)) ∙ ap (feedOf (w / 256 % 256) (8 + (16 * k + 16))) (rw (zero-mul) refl))
 
-    low : w % 65536 ≡ remainder 16 n
-    low =
-        let e : w % 65536 ≡ n % 2 ^ 16 = omega arith in
-        e ∙ sym (remainder-own (n % 2 ^ 16) (mod-lt n (lit< tt))) ∙ feed-low 0 16 n
+    whole : bitXor (w % 256) (w / 256 % 256 * 256) ≡ w % 65536
+    whole =
+        let sum : w / 256 % 256 * 256 + w % 256 ≡ w % 65536 = omega arith in
+        xor-comm (w % 256) (w / 256 % 256 * 256) ∙ xor-shifted (w / 256 % 256) 8 (w % 256) (mod-lt w (lit< tt)) ∙ sum
 
--- 64 bits in two steps
-pub feed-halves : (r w a b : ℕ) → a ≡ feedOf r 32 (w / 2 ^ 32) → b ≡ feedOf a 32 (w % 2 ^ 32) → b ≡ feedOf r 64 w
-feed-halves r w a b ea eb =
-    eb ∙ ap (λ (x : ℕ). feedOf x 32 (w % 2 ^ 32)) ea ∙ feed-append r 32 32 (w / 2 ^ 32) (w % 2 ^ 32) (mod-lt w (lit< tt))
-    ∙ ap (feedOf r 64) (div-add-mod' w (2 ^ 32))
+-- and the remainder from the digits
+module _ (hi lo : ℕ) (h : hi < 2 ^ 62) (l : lo < 2 ^ 64) where
+  word : ℕ
+  word = hi * 2 ^ 64 + lo
 
-pub syndrome-law : (hi lo r v : ℕ) → hi < 2 ^ 62 → lo < 2 ^ 64 → r ≡ feedOf 0 64 hi → v ≡ feedOf r 64 lo → v ≡ remainder 126 (hi * 2 ^ 64 + lo)
-syndrome-law hi lo r v h l e f =
-    f ∙ ap (λ (x : ℕ). feedOf x 64 lo) e ∙ feed-append 0 64 64 hi lo l ∙ remainder-lead 2 126 (hi * 2 ^ 64 + lo) (digits-lt h l)
+  upper : (j : ℕ) → hi / 2 ^ j % 65536 ≡ word / 2 ^ (64 + j) % 2 ^ 16
+  unfolding word
+  upper j = ap (λ (x : ℕ). x / 2 ^ j % 65536) (sym (high hi 64 l)) ∙ ap (λ (x : ℕ). x % 65536) (shr-shr (hi * 2 ^ 64 + lo) 64 j)
+
+  lower : (m j : ℕ) → 64 ≡ m + 16 + j → lo / 2 ^ j % 65536 ≡ word / 2 ^ j % 2 ^ 16
+  unfolding word
+  lower m j e =
+      ap (λ (x : ℕ). x / 2 ^ j % 65536) (sym (low hi 64 l) ∙ ap (λ (n : ℕ). (hi * 2 ^ 64 + lo) % 2 ^ n) e)
+      ∙ ap (λ (x : ℕ). x % 65536) (field (hi * 2 ^ 64 + lo) (m + 16) j) ∙ mod-mod-pow ((hi * 2 ^ 64 + lo) / 2 ^ j) m 16
+
+  more : (k : ℕ) {r x w : ℕ} → r ≡ remainder k word → x ≡ feedOf w k 0 → w ≡ word / 2 ^ k % 2 ^ 16 → bitXor r x ≡ remainder (16 + k) word
+  more k {r} {x} {w} er ex ew = ap₂ bitXor er (ex ∙ ap (λ (d : ℕ). feedOf d k 0) ew) ∙ sym (remainder-above 16 k word (lit≤ tt))
+
+  pub syndrome-law : (a b c d e f g : ℕ)
+      → a ≡ feedOf (lo / 65536 % 65536) 16 0 → b ≡ feedOf (lo / 4294967296 % 65536) 32 0 → c ≡ feedOf (lo / 281474976710656 % 65536) 48 0
+      → d ≡ feedOf (hi % 65536) 64 0 → e ≡ feedOf (hi / 65536 % 65536) 80 0 → f ≡ feedOf (hi / 4294967296 % 65536) 96 0 → g ≡ feedOf (hi / 281474976710656 % 65536) 112 0
+      → bitXor (bitXor (bitXor (bitXor (bitXor (bitXor (bitXor (lo % 65536) a) b) c) d) e) f) g ≡ remainder 126 (hi * 2 ^ 64 + lo)
+  unfolding word
+  syndrome-law a b c d e f g ea eb ec ed ee ef eg =
+      more 112 (more 96 (more 80 (more 64 (more 48 (more 32 (more 16 first ea (lower 32 16 refl)) eb (lower 16 32 refl)) ec (lower 0 48 refl)) ed (zeroth ∙ upper 0)) ee (upper 16)) ef (upper 32)) eg (upper 48)
+      ∙ remainder-lead 2 126 word (digits-lt h l)
+    where
+      first : lo % 65536 ≡ remainder 16 word
+      first =
+          let e : lo % 65536 ≡ word % 2 ^ 16 = ap (λ (x : ℕ). x % 65536) (sym (low hi 64 l)) ∙ mod-mod-pow word 48 16 in
+          e ∙ sym (remainder-own (word % 2 ^ 16) (mod-lt word (lit< tt))) ∙ feed-low 0 16 word
+
+      zeroth : hi % 65536 ≡ hi / 2 ^ 0 % 65536
+      zeroth = ap (λ (x : ℕ). x % 65536) (sym (div-one hi))

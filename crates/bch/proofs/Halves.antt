@@ -1,14 +1,17 @@
 -- A word in two numbers: a bit turned over, what it decodes to, and what is sent.
 -- Assumes nothing.
-use mathlib.Core.Path.{_≡_, sym, ap, _∙_, subst}
+use mathlib.Core.Path.{_≡_, sym, ap, ap₂, _∙_, subst}
+use mathlib.Core.Logic.{⊎-elim}
 use Prim.Native.Nat.{ℕ, _+_, _-_, _*_, _/_, _%_, _^_, _<_, _≤_}
-use native.Mathlib.Nat.{zero-add, add-zero, one-mul, mod-eq-of-lt}
+use native.Mathlib.Nat.{add-zero, one-mul, mul-one, mul-zero, mod-lt, mod-eq-of-lt}
+use native.Mathlib.Decide.{decLt}
 use native.Mathlib.Omega.{arith}
 use lib.Arith.{digits-div, digits-mod}
 use lib.Dec.{lit<}
 use lib.Pow.{pow-add, pow-lt}
-use lib.Bits.{bitXor, xor-block, xor-lt, xor-zero-r}
+use lib.Bits.{bitXor, xor-block, xor-lt}
 use Rattle.bits.specs.Words.{wordOf}
+use Rattle.bits.proofs.Xor.{bit-cases}
 use Rattle.bch.specs.Code.{remainder, parityOf, coded, flipped}
 use Rattle.bch.specs.Mend.{mend, mended}
 use Rattle.bch.specs.Word.{informationOf, decoded}
@@ -17,32 +20,43 @@ use Rattle.bch.specs.declared.Mend.{Mend}
 use Rattle.bch.proofs.Remainder.{remainder-lt}
 use Rattle.bch.proofs.Patterns.{answers-unique, mend-answers}
 
--- ---- a bit turned over: `hi ^ (1 << (61 - i))`, `lo ^ (1 << (125 - i))`
+-- ---- a bit turned over: bit d of worth 2^d is `1 << (d % 64)` in the one number or in the other
 
-pub turn-high : (hi lo i : ℕ) → lo < 2 ^ 64 → hi < 2 ^ 62 → i < 62
-    → (bitXor hi (1 * 2 ^ (61 - i) % 2 ^ 64) * 2 ^ 64 + lo ≡ flipped i (hi * 2 ^ 64 + lo)) × (bitXor hi (1 * 2 ^ (61 - i) % 2 ^ 64) < 2 ^ 62)
+pub times-lt : (x b : ℕ) → x < 2 ^ 64 → b < 2 → x * b < 2 ^ 64
+times-lt x b h l = ⊎-elim (λ (e : b ≡ 0). rw (e, mul-zero) (lit< tt)) (λ (e : b ≡ 1). rw (e, mul-one) h) (bit-cases b l)
+
+one-bit : (d : ℕ) → d < 126
+    → (1 * 2 ^ (d % 64) % 2 ^ 64 * (d / 64) * 2 ^ 64 + 1 * 2 ^ (d % 64) % 2 ^ 64 * (1 - d / 64) ≡ 2 ^ d) × (1 * 2 ^ (d % 64) % 2 ^ 64 * (d / 64) < 2 ^ 62)
+one-bit d h =
+    let small : 2 ^ (d % 64) < 2 ^ 64 = pow-lt (mod-lt d (lit< tt)) in
+    rw (one-mul, mod-eq-of-lt small) (go (decLt d 64))
+  where
+    low : d < 64 → (2 ^ (d % 64) * (d / 64) * 2 ^ 64 + 2 ^ (d % 64) * (1 - d / 64) ≡ 2 ^ d) × (2 ^ (d % 64) * (d / 64) < 2 ^ 62)
+    low l =
+        let k : d / 64 ≡ 0 = omega arith in
+        let m : d % 64 ≡ d = omega arith in
+        rw (k, m, mul-zero) (omega arith, lit< tt)
+
+    high : 64 ≤ d → (2 ^ (d % 64) * (d / 64) * 2 ^ 64 + 2 ^ (d % 64) * (1 - d / 64) ≡ 2 ^ d) × (2 ^ (d % 64) * (d / 64) < 2 ^ 62)
+    high l =
+        let k : d / 64 ≡ 1 = omega arith in
+        let m : d % 64 < 62 = omega arith in
+        let e : d % 64 + 64 ≡ d = omega arith in
+        rw (k, mul-one, mul-zero) (add-zero _ ∙ sym (pow-add 2 (d % 64) 64) ∙ ap (λ (x : ℕ). 2 ^ x) e, pow-lt m)
+
+    go : Dec (d < 64) → (2 ^ (d % 64) * (d / 64) * 2 ^ 64 + 2 ^ (d % 64) * (1 - d / 64) ≡ 2 ^ d) × (2 ^ (d % 64) * (d / 64) < 2 ^ 62)
+    go (yes l) = low l
+    go (no l) = high (omega arith)
+
+pub turn-law : (hi lo i x y : ℕ) → hi < 2 ^ 62 → lo < 2 ^ 64 → i < 126 → y < 2 ^ 64
+    → x ≡ 1 * 2 ^ ((125 - i) % 64) % 2 ^ 64 * ((125 - i) / 64) → y ≡ 1 * 2 ^ ((125 - i) % 64) % 2 ^ 64 * (1 - (125 - i) / 64)
+    → (bitXor hi x * 2 ^ 64 + bitXor lo y ≡ flipped i (hi * 2 ^ 64 + lo)) × (bitXor hi x < 2 ^ 62)
 unfolding flipped
-turn-high hi lo i l h b =
-    let d : 61 - i < 62 = omega arith in
-    let q : 2 ^ (61 - i) < 2 ^ 62 = pow-lt d in
-    let p : 2 ^ (61 - i) < 2 ^ 64 = omega arith in
-    let s : 125 - i ≡ 61 - i + 64 = omega arith in
-    let e : 2 ^ (125 - i) ≡ 2 ^ (61 - i) * 2 ^ 64 + 0 =
-    ap (λ (x : ℕ). 2 ^ x) s ∙ pow-add 2 (61 - i) 64 ∙ sym (add-zero (2 ^ (61 - i) * 2 ^ 64)) in
-    rw (one-mul, mod-eq-of-lt p) (
-      ap (λ (x : ℕ). bitXor hi (2 ^ (61 - i)) * 2 ^ 64 + x) (sym (xor-zero-r lo))
-          ∙ sym (xor-block 64 hi (2 ^ (61 - i)) lo 0 l (lit< tt)) ∙ ap (bitXor (hi * 2 ^ 64 + lo)) (sym e),
-      xor-lt 62 hi (2 ^ (61 - i)) h q,
+turn-law hi lo i x y h l b s ex ey =
+    let one = one-bit (125 - i) (omega arith) in (
+      sym (xor-block 64 hi x lo y l s) ∙ ap (bitXor (hi * 2 ^ 64 + lo)) (ap₂ (λ (a c : ℕ). a * 2 ^ 64 + c) ex ey ∙ one .0),
+      xor-lt 62 hi x h (subst (λ (a : ℕ). a < 2 ^ 62) (sym ex) (one .1)),
     )
-
-pub turn-low : (hi lo i : ℕ) → lo < 2 ^ 64 → 62 ≤ i → i < 126 → hi * 2 ^ 64 + bitXor lo (1 * 2 ^ (125 - i) % 2 ^ 64) ≡ flipped i (hi * 2 ^ 64 + lo)
-unfolding flipped
-turn-low hi lo i l a b =
-    let d : 125 - i < 64 = omega arith in
-    let p : 2 ^ (125 - i) < 2 ^ 64 = pow-lt d in
-    rw (one-mul, mod-eq-of-lt p)
-    (ap (λ (x : ℕ). x * 2 ^ 64 + bitXor lo (2 ^ (125 - i))) (sym (xor-zero-r hi))
-    ∙ sym (xor-block 64 hi 0 lo (2 ^ (125 - i)) l p) ∙ ap (bitXor (hi * 2 ^ 64 + lo)) (zero-add (2 ^ (125 - i))))
 
 pub parity-lt : {p : ℕ} (m : ℕ) → p ≡ parityOf m → p < 65536
 unfolding parityOf

@@ -42,9 +42,9 @@ Within (One i) = i < 126
 Within (Two i j) = (i < 126) × (j < 126)
 Within Flagged = Unit
 
--- the table of `fold`: entry 256 p + b is the remainder of b times x^(8 p + 16)
-pub record IsFold (t : List ℕ) : Type 0 where
-  pub entry : (p b : ℕ) → p < 4 → b < 256 → getD t (256 * p + b) 0 ≡ feedOf b (8 * p + 16) 0
+-- the table of `digit`: entry 256 p + b is the remainder of b times x^(8 p + 16)
+pub record IsRemainders (t : List ℕ) : Type 0 where
+  pub entry : (p b : ℕ) → p < 14 → b < 256 → getD t (256 * p + b) 0 ≡ feedOf b (8 * p + 16) 0
 
 -- the table of `confirm`: entry i is the remainder of bit i
 pub record IsColumns (t : List ℕ) : Type 0 where
@@ -54,24 +54,26 @@ pub record IsColumns (t : List ℕ) : Type 0 where
 unfoldable pub risingOf : ℕ → ℕ → Pair
 risingOf x y = cond (leb x y) (record { low = x; high = y }) (record { low = y; high = x })
 
--- the values of the remainder s at two elements of the field of 128, from its four hex digits
+-- the values of the remainder s at two elements of the field of 128, from its two bytes
 unfoldable pub valuesOf : List ℕ → ℕ → ℕ
-valuesOf field s =
-    bitXor (bitXor (getD field (s % 16) 0) (getD field (16 + s / 16 % 16) 0))
-    (bitXor (getD field (32 + s / 256 % 16) 0) (getD field (48 + s / 4096 % 16) 0))
+valuesOf field s = bitXor (getD field (s % 256) 0) (getD field (256 + s / 256) 0)
+
+-- a number below 254 round 127
+unfoldable pub roundOf : ℕ → ℕ
+roundOf x = cond (ltb x 127) x (x - 127)
 
 -- the places that the look-ups lead to from the remainder s: the place of the first value, moved by each half of the entry between the two
 unfoldable pub pairOf : (field log ratio : List ℕ) → ℕ → Pair
-pairOf field log ratio s = risingOf ((l + q % 128) % 127) ((l + q / 128) % 127)
+pairOf field log ratio s = risingOf (roundOf (x % 128 + q % 128)) (roundOf (x % 128 + q / 128))
   where
-    l : ℕ
-    l = getD log (valuesOf field s % 128) 0
+    x : ℕ
+    x = getD log (valuesOf field s % 128) 0
 
-    m : ℕ
-    m = getD log (valuesOf field s / 128 % 128) 0
+    y : ℕ
+    y = getD log (valuesOf field s / 128 % 128) 0
 
     q : ℕ
-    q = getD ratio ((3 * l + 126 * m) % 127) 0
+    q = getD ratio (x / 128 % 128 + 127 - y % 128) 0
 
 -- the places of a pattern's bits, the one bit's twice; beyond the word where there is no bit
 unfoldable pub placesOf : Mend → Pair

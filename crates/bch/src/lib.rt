@@ -1,13 +1,13 @@
 // The word code BCH(126,110): parity and decoding of one word, and of the 384 words of a frame in one call.
 // A word is two numbers: hi has bits 0 to 61 in its 62 low bits, lo has bits 62 to 125. Bits 0 to 109 are the information, the rest is parity.
 ghost use mathlib.Core.Path.{_≡_};
-ghost use Prim.Native.Nat.{_<_, _≤_, _+_, _*_, _^_};
+ghost use Prim.Native.Nat.{_<_, _≤_, _+_, _*_, _%_, _^_};
 ghost use lib.ListN.{getD, length};
 ghost use Rattle.bch.specs.Code.{stepOf, feedOf, remainder, parityOf, flipped};
 ghost use Rattle.bch.specs.Mend.{mended, flagOf};
 ghost use Rattle.bits.specs.Words.{wordOf};
 ghost use Rattle.bch.specs.Word.{informationOf, decoded, codedFrame, mendedFrame, flagsOf};
-ghost use Rattle.bch.specs.Tables.{Answers, Within, IsFold, IsColumns, Finds, risingOf, valuesOf, pairOf, confirmed};
+ghost use Rattle.bch.specs.Tables.{Answers, Within, IsRemainders, IsColumns, Finds, risingOf, roundOf, valuesOf, pairOf, confirmed};
 
 mod tables;
 
@@ -83,41 +83,52 @@ fn entry(t: &[u16], k: u64) -> u64
     bits::wide16(t[i])
 }
 
-// 32 more coefficients below a remainder at once: the four upper bytes are looked up, the two lower ones stand as they are.
-fn fold(t: &[u16; 1024], r: u64, w: u64) -> u64
-    requires { ⌜ IsFold (now t) ⌝ }
-    requires { ⌜ (r < 65536) × (w < 2 ^ 32) ⌝ }
-    ensures { λ v. ⌜ (v ≡ feedOf r 32 w) × (v < 65536) ⌝ }
+// What digit k of a word, counted by 16 bits above the lowest, adds to its remainder: w's two low bytes are looked up, each at its place.
+fn digit(t: &[u16; 3584], k: u64, w: u64) -> u64
+    requires { ⌜ IsRemainders (now t) ⌝ }
+    requires { ⌜ k < 7 ⌝ }
+    ensures { λ v. ⌜ (v ≡ feedOf (w % 65536) (16 * k + 16) 0) × (v < 65536) ⌝ }
 {
-    let a = entry(t, w / 65536 % 256);
-    let b = entry(t, 256 + w / 16777216);
-    let c = entry(t, 512 + r % 256);
-    let d = entry(t, 768 + r / 256);
-    w % 65536 ^ a ^ b ^ c ^ d
+    let a = entry(t, 512 * k + w % 256);
+    let b = entry(t, 512 * k + 256 + w / 256 % 256);
+    a ^ b
 }
 
-// The remainder of a word: 0 exactly at the code words.
-fn syndrome(t: &[u16; 1024], hi: u64, lo: u64) -> u64
-    requires { ⌜ IsFold (now t) ⌝ }
+// The remainder of a word: 0 exactly at the code words. The lowest digit is its own remainder.
+fn syndrome(t: &[u16; 3584], hi: u64, lo: u64) -> u64
+    requires { ⌜ IsRemainders (now t) ⌝ }
     requires { ⌜ hi < 2 ^ 62 ⌝ }
     ensures { λ v. ⌜ (v ≡ remainder 126 (hi * 2 ^ 64 + lo)) × (v < 65536) ⌝ }
 {
-    let a = fold(t, 0, hi / 4294967296);
-    let b = fold(t, a, hi % 4294967296);
-    let c = fold(t, b, lo / 4294967296);
-    fold(t, c, lo % 4294967296)
+    let a = digit(t, 0, lo / 65536);
+    let b = digit(t, 1, lo / 4294967296);
+    let c = digit(t, 2, lo / 281474976710656);
+    let d = digit(t, 3, hi);
+    let e = digit(t, 4, hi / 65536);
+    let f = digit(t, 5, hi / 4294967296);
+    let g = digit(t, 6, hi / 281474976710656);
+    lo % 65536 ^ a ^ b ^ c ^ d ^ e ^ f ^ g
 }
 
 // The values of a remainder at two elements of the field.
-fn values(field: &[u16; 64], s: u64) -> u64
+fn values(field: &[u16; 512], s: u64) -> u64
     requires { ⌜ s < 65536 ⌝ }
     ensures { λ v. ⌜ v ≡ valuesOf (now (field .entry)) s ⌝ }
 {
-    let a = entry(field, s % 16);
-    let b = entry(field, 16 + s / 16 % 16);
-    let c = entry(field, 32 + s / 256 % 16);
-    let d = entry(field, 48 + s / 4096 % 16);
-    (a ^ b) ^ (c ^ d)
+    let a = entry(field, s % 256);
+    let b = entry(field, 256 + s / 256);
+    a ^ b
+}
+
+// A number below 254 round 127.
+fn round(x: u64) -> u64
+    ensures { λ r. ⌜ r ≡ roundOf x ⌝ }
+{
+    if x < 127 {
+        x
+    } else {
+        x - 127
+    }
 }
 
 // Two places in rising order.
@@ -132,15 +143,18 @@ fn rising(x: u64, y: u64) -> Pair
 }
 
 // The places of the one or two bits of which s is the remainder; any two numbers where there are none.
-fn candidate(field: &[u16; 64], log: &[u16; 128], ratio: &[u16; 127], s: u64) -> Pair
+fn candidate(field: &[u16; 512], log: &[u16; 128], ratio: &[u16; 255], s: u64) -> Pair
     requires { ⌜ s < 65536 ⌝ }
     ensures { λ r. ⌜ r ≡ pairOf (now (field .entry)) (now (log .entry)) (now (ratio .entry)) s ⌝ }
 {
     let v = values(field, s);
-    let l = entry(log, v % 128);
-    let m = entry(log, v / 128 % 128);
-    let q = entry(ratio, (3 * l + 126 * m) % 127);
-    rising((l + q % 128) % 127, (l + q / 128) % 127)
+    let x = entry(log, v % 128);
+    let y = entry(log, v / 128 % 128);
+    let q = entry(ratio, x / 128 % 128 + 127 - y % 128);
+    let l = x % 128;
+    let one = round(l + q % 128);
+    let other = round(l + q / 128);
+    rising(one, other)
 }
 
 // What was looked up is believed only if its bits have the remainder s.
@@ -169,7 +183,7 @@ fn confirm(t: &[u16; 126], s: u64, p: Pair) -> Mend
 }
 
 // The bits of which s is the remainder.
-fn find(field: &[u16; 64], log: &[u16; 128], ratio: &[u16; 127], t: &[u16; 126], s: u64) -> Mend
+fn find(field: &[u16; 512], log: &[u16; 128], ratio: &[u16; 255], t: &[u16; 126], s: u64) -> Mend
     requires { ⌜ Finds (now field) (now log) (now ratio) ⌝ }
     requires { ⌜ IsColumns (now t) ⌝ }
     requires { ⌜ s < 65536 ⌝ }
@@ -182,21 +196,25 @@ fn find(field: &[u16; 64], log: &[u16; 128], ratio: &[u16; 127], t: &[u16; 126],
     confirm(t, s, p)
 }
 
-// The word with bit i turned over.
+// x or nothing, as b is 1 or 0, without a branch.
+fn times(x: u64, b: u64) -> u64
+    requires { ⌜ b < 2 ⌝ }
+    ensures { λ r. ⌜ r ≡ x * b ⌝ }
+{
+    x * b
+}
+
+// The word with bit i turned over, in the one number or in the other; places are any, so that a branch would be guessed wrong every other time.
 fn turn(w: Word, i: u64) -> Word
     requires { ⌜ (w .hi < 2 ^ 62) × (i < 126) ⌝ }
     ensures { λ v. ⌜ (v .hi * 2 ^ 64 + v .lo ≡ flipped i (w .hi * 2 ^ 64 + w .lo)) × (v .hi < 2 ^ 62) ⌝ }
 {
-    if i < 62 {
-        Word {
-            hi: w.hi ^ (1 << (61 - i)),
-            lo: w.lo,
-        }
-    } else {
-        Word {
-            hi: w.hi,
-            lo: w.lo ^ (1 << (125 - i)),
-        }
+    let d = 125 - i;
+    let bit = 1u64 << (d % 64);
+    let upper = d / 64;
+    Word {
+        hi: w.hi ^ times(bit, upper),
+        lo: w.lo ^ times(bit, 1 - upper),
     }
 }
 
@@ -219,21 +237,21 @@ fn turned(w: Word, m: Mend) -> Word
 
 // What a word decodes to, by the tables it is lent.
 fn decode_word(
-    fold: &[u16; 1024],
-    field: &[u16; 64],
+    remainders: &[u16; 3584],
+    field: &[u16; 512],
     log: &[u16; 128],
-    ratio: &[u16; 127],
+    ratio: &[u16; 255],
     column: &[u16; 126],
     hi: u64,
     lo: u64,
 ) -> Decoded
-    requires { ⌜ IsFold (now fold) ⌝ }
+    requires { ⌜ IsRemainders (now remainders) ⌝ }
     requires { ⌜ Finds (now field) (now log) (now ratio) ⌝ }
     requires { ⌜ IsColumns (now column) ⌝ }
     requires { ⌜ hi < 2 ^ 62 ⌝ }
     ensures { λ r. ⌜ r ≡ decoded (hi * 2 ^ 64 + lo) ⌝ }
 {
-    let s = syndrome(fold, hi, lo);
+    let s = syndrome(remainders, hi, lo);
     let m = find(field, log, ratio, column, s);
     let w = turned(Word { hi, lo }, m);
     Decoded {
@@ -259,13 +277,13 @@ pub fn flag(m: Mend) -> u8
 pub fn decode(hi: u64, lo: u64) -> Decoded
     ensures { λ r. ⌜ r ≡ decoded (wordOf hi lo) ⌝ }
 {
-    let fold = tables::FOLD;
+    let remainders = tables::REMAINDERS;
     let field = tables::FIELD;
     let log = tables::LOG;
     let ratio = tables::RATIO;
     let column = tables::COLUMN;
     decode_word(
-        &fold,
+        &remainders,
         &field,
         &log,
         &ratio,
@@ -300,15 +318,15 @@ pub fn encode_frame(words: &mut [u64; 768])
 
 // Each word of a frame becomes what it decodes to, and gets its flag byte.
 fn decode_words(
-    fold: &[u16; 1024],
-    field: &[u16; 64],
+    remainders: &[u16; 3584],
+    field: &[u16; 512],
     log: &[u16; 128],
-    ratio: &[u16; 127],
+    ratio: &[u16; 255],
     column: &[u16; 126],
     words: &mut [u64],
     flags: &mut [u8],
 )
-    requires { ⌜ IsFold (now fold) ⌝ }
+    requires { ⌜ IsRemainders (now remainders) ⌝ }
     requires { ⌜ Finds (now field) (now log) (now ratio) ⌝ }
     requires { ⌜ IsColumns (now column) ⌝ }
     requires { ⌜ (length (now words) ≡ 768) × (length (now flags) ≡ 384) ⌝ }
@@ -319,7 +337,7 @@ fn decode_words(
         let hi = words[2 * i];
         let lo = words[2 * i + 1];
         let d = decode_word(
-            fold,
+            remainders,
             field,
             log,
             ratio,
@@ -339,10 +357,10 @@ fn decode_words(
 pub fn decode_frame(words: &mut [u64; 768], flags: &mut [u8; 384])
     ensures { λ _. ⌜ (now (words .exit) ≡ mendedFrame (now (words .entry))) × (now (flags .exit) ≡ flagsOf (now (words .entry))) ⌝ }
 {
-    let fold = tables::FOLD;
+    let remainders = tables::REMAINDERS;
     let field = tables::FIELD;
     let log = tables::LOG;
     let ratio = tables::RATIO;
     let column = tables::COLUMN;
-    decode_words(&fold, &field, &log, &ratio, &column, words, flags);
+    decode_words(&remainders, &field, &log, &ratio, &column, words, flags);
 }

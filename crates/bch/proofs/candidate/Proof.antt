@@ -13,23 +13,26 @@ entry-requires c κs = search needs
 entry-requires-2 : tie.Need-entry-requires-2
 entry-requires-2 c κs = search needs
 
-mul-entry : tie.Need-mul-entry
-mul-entry c = search needs
-
-mul-entry-2 : tie.Need-mul-entry-2
-mul-entry-2 c = search needs
-
 add-entry : tie.Need-add-entry
 add-entry c = search needs
+
+sub-entry : tie.Need-sub-entry
+sub-entry c = search needs
 
 entry-requires-3 : tie.Need-entry-requires-3
 entry-requires-3 c κs = search needs
 
-add-rising : tie.Need-add-rising
-add-rising c = search needs
+add-round : tie.Need-add-round
+add-round c = search needs
 
-add-rising-2 : tie.Need-add-rising-2
-add-rising-2 c = search needs
+round-requires : tie.Need-round-requires
+round-requires c κs = search needs
+
+add-round-2 : tie.Need-add-round-2
+add-round-2 c = search needs
+
+round-requires-2 : tie.Need-round-requires-2
+round-requires-2 c κs = search needs
 
 rising-requires : tie.Need-rising-requires
 rising-requires c κs = search needs
@@ -37,7 +40,7 @@ rising-requires c κs = search needs
 returns : tie.Need-returns
 unfolding pairOf
 returns c =
-    rw (c .rising .ensures, c .before .entry3 .ensures .0, c .before .before .before .entry2 .ensures .0, c .before .before .before .before .before .entry .ensures .0, c .before .before .before .before .before .before .before .values .ensures)
+    rw (c .rising .ensures, c .before .round2 .ensures, c .before .before .round .ensures, c .before .before .before .entry3 .ensures .0, c .before .before .before .before .before .entry2 .ensures .0, c .before .before .before .before .before .before .before .entry .ensures .0, c .before .before .before .before .before .before .before .before .before .values .ensures)
 
 pub candidate-spec : {M : Type 1} → statement M
 candidate-spec =
@@ -46,11 +49,12 @@ candidate-spec =
     values-requires
     entry-requires
     entry-requires-2
-    mul-entry
-    mul-entry-2
     add-entry
+    sub-entry
     entry-requires-3
-    add-rising
-    add-rising-2
+    add-round
+    round-requires
+    add-round-2
+    round-requires-2
     rising-requires
     returns)

@@ -1,30 +1,49 @@
--- `bch::syndrome` meets its contract: 64 bits twice, each in two steps. Assumes nothing.
-use Rattle.bch.proofs.Folding.{feed-halves, syndrome-law}
+-- `bch::syndrome` meets its contract: digit by digit, `syndrome-law`. Assumes nothing.
+use mathlib.Core.Path.{sym, subst}
+use Prim.Native.Nat.{ℕ, _+_, _*_, _^_, _<_}
+use Rattle.bch.proofs.Remainder.{remainder-lt}
+use Rattle.bch.proofs.Folding.{syndrome-law}
 use borrow.Author.Needs.{needs}
 use Rattle.bch.proofs.syndrome.Statement.{statement}
 use Rattle.bch.proofs.syndrome.Tie as tie
 
-fold-requires : tie.Need-fold-requires
-fold-requires c κs = search needs
+digit-requires : tie.Need-digit-requires
+digit-requires c κs = search needs
 
-fold-requires-2 : tie.Need-fold-requires-2
-fold-requires-2 c κs = search needs
+digit-requires-2 : tie.Need-digit-requires-2
+digit-requires-2 c κs = search needs
 
-fold-requires-3 : tie.Need-fold-requires-3
-fold-requires-3 c κs = search needs
+digit-requires-3 : tie.Need-digit-requires-3
+digit-requires-3 c κs = search needs
 
-fold-requires-4 : tie.Need-fold-requires-4
-fold-requires-4 c κs = search needs
+digit-requires-4 : tie.Need-digit-requires-4
+digit-requires-4 c κs = search needs
+
+digit-requires-5 : tie.Need-digit-requires-5
+digit-requires-5 c κs = search needs
+
+digit-requires-6 : tie.Need-digit-requires-6
+digit-requires-6 c κs = search needs
+
+digit-requires-7 : tie.Need-digit-requires-7
+digit-requires-7 c κs = search needs
 
 returns : tie.Need-returns
 returns c =
-    let a = c .before .before .before .before .args in (
-      syndrome-law (a .hi) (a .lo) _ _ (c .before .before .before .before .pre .1) (search needs)
-          (feed-halves 0 (a .hi) _ _ (c .before .before .before .fold .ensures .0) (c .before .before .fold2 .ensures .0))
-          (feed-halves _ (a .lo) _ _ (c .before .fold3 .ensures .0) (c .fold4 .ensures .0)),
-      c .fold4 .ensures .1,
-    )
+    let a = c .before .before .before .before .before .before .before .args in
+    let e = syndrome-law (a .hi) (a .lo) (c .before .before .before .before .before .before .before .pre .1) (search needs) _ _ _ _ _ _ _ (c .before .before .before .before .before .before .digit .ensures .0) (c .before .before .before .before .before .digit2 .ensures .0) (c .before .before .before .before .digit3 .ensures .0)
+    (c .before .before .before .digit4 .ensures .0) (c .before .before .digit5 .ensures .0) (c .before .digit6 .ensures .0) (c .digit7 .ensures .0) in
+    (e, subst (λ (x : ℕ). x < 65536) (sym e) (remainder-lt 126 (a .hi * 2 ^ 64 + a .lo)))
 
 pub syndrome-spec : {M : Type 1} → statement M
 syndrome-spec =
-    tie.close (tie.spec fold-requires fold-requires-2 fold-requires-3 fold-requires-4 returns)
+    tie.close
+    (tie.spec
+    digit-requires
+    digit-requires-2
+    digit-requires-3
+    digit-requires-4
+    digit-requires-5
+    digit-requires-6
+    digit-requires-7
+    returns)
