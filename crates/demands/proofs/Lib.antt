@@ -6,3 +6,4 @@ pub mod Totals
 pub mod Labels
 pub mod ReedSolomon
 pub mod Exceeded
+pub mod Empty
