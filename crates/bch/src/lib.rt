@@ -124,11 +124,7 @@ fn values(field: &[u16; 512], s: u64) -> u64
 fn round(x: u64) -> u64
     ensures { λ r. ⌜ r ≡ roundOf x ⌝ }
 {
-    if x < 127 {
-        x
-    } else {
-        x - 127
-    }
+    if x < 127 { x } else { x - 127 }
 }
 
 // Two places in rising order.

@@ -1,8 +1,8 @@
 -- An empty receiver that the demands forbid: it writes its output on the first frame only.
 -- Assumes nothing.
-use mathlib.Core.Path.{_≡_, refl, sym, ap, _∙_}
+use mathlib.Core.Path.{_≡_, sym, ap, _∙_}
 use mathlib.Core.List.{List}
-use Prim.Native.Nat.{ℕ, _+_, _*_, _/_, _%_, _<_}
+use Prim.Native.Nat.{ℕ, _/_, _%_}
 use native.Mathlib.Omega.{arith}
 use lib.ListN.{replicate, getD-replicate}
 use Rattle.bits.specs.Bits.{bitOf, bitAt}

@@ -4,21 +4,20 @@ use mathlib.Core.Path.{_≡_, refl, sym, ap, ap₂, _∙_, subst}
 use mathlib.Core.Logic.{_≢_, inl, ⊎-elim}
 use mathlib.Core.Bool.{Bool, true, false, not, cond, _&&_}
 use mathlib.Core.List.{List}
-use Prim.Native.Nat.{ℕ, zero, suc, _+_, _*_, _-_, _/_, _%_, _^_, _≤_, _<_}
+use Prim.Native.Nat.{ℕ, zero, suc, _+_, _*_, _-_, _/_, _%_, _^_, _<_}
 use native.Mathlib.Decide.{ℕ-discrete}
 use native.Mathlib.Omega.{arith}
 use lib.Arith.{digits-div, digits-mod}
 use lib.Dec.{eqb, ltb, lit<}
-use lib.ListN.{length, getD, replicate, length-replicate, getD-replicate}
+use lib.ListN.{length, getD, replicate, length-replicate}
 use lib.Bits.{bitXor, differ, xor-self, xor-zero-r}
 use borrow.Author.Tests.{ltb-true, lt-ltb, eq-eqb, ne-eqb}
 use Rattle.bits.specs.Bits.{bitOf, count}
 use Rattle.bits.specs.Words.{wordAt, rowOf}
 use Rattle.bits.proofs.Words.{row-at}
 use Rattle.bits.proofs.Count.{count-pos}
-use Rattle.bits.proofs.Weight.{weight, weight-zero}
+use Rattle.bits.proofs.Weight.{weight-zero}
 use Rattle.bch.specs.Code.{distance}
-use Rattle.bch.specs.Mend.{mend, mended}
 use Rattle.bch.proofs.Distance.{distance-weight}
 use Rattle.bch.proofs.Theorems.{nothing, three-flagged, flagged-passes}
 use Rattle.lanes.specs.Permutation.{Lanes, Places, named, partner}
@@ -31,7 +30,7 @@ use Rattle.framing.specs.Receive.{broughtLanes}
 use Rattle.framing.proofs.Receiving.{all-lengths}
 use Rattle.framing.proofs.Received.{passed, brought-bit, store-whole}
 use Rattle.demands.specs.Trial.{hit, Trial, Accepted, flipsIn}
-use Rattle.demands.specs.ReedSolomon.{Labels, Spans, carries, total, heavyWords, wrongSymbol, wrongSymbols, Exceeded, OtherPlaces, OtherPairs}
+use Rattle.demands.specs.ReedSolomon.{Labels, Spans, carries, heavyWords, wrongSymbol, wrongSymbols, Exceeded, OtherPlaces, OtherPairs}
 use Rattle.demands.proofs.Hit.{hit-at, hit-word, hit-length, unhit-locks}
 use Rattle.demands.proofs.Trial.{frame-pilots, differs-by, trials-exist}
 use Rattle.demands.proofs.ReedSolomon.{differ-none}
@@ -236,9 +235,9 @@ module _ (ex : Places) (s t : ℕ) (order : s < t) (four : t < 4) (parity : s % 
       omega (
         arith,
         total-one (λ p w. ltb 2 (flipsIn flips p w) && carries ex plain (plain lane s) p w) (12 * 2)
-        (λ p w hp hw y. first-only p w hp (ltb-true 2 (flipsIn flips p w) (left (ltb 2 (flipsIn flips p w)) _ y))),
+            (λ p w hp hw y. first-only p w hp (ltb-true 2 (flipsIn flips p w) (left (ltb 2 (flipsIn flips p w)) _ y))),
         total-two (λ p u. ltb (u + 144) (132 * 2) && wrongSymbol (run .back) (run .cleanBack) p u && eqb (plain p u) (plain lane s)) (132 * 2) lane s t lane-lt order (omega arith)
-        (counted s (omega arith) refl at-s refl) (counted t four (sym side) at-t same-label)
+            (counted s (omega arith) refl at-s refl) (counted t four (sym side) at-t same-label),
       )
 
   found : Exceeded ex

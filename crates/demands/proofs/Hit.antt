@@ -10,7 +10,7 @@ use lib.Dec.{eqb, ltb}
 use lib.ListN.{length, getD}
 use lib.Seq.{ext-getD}
 use lib.Bits.{bitXor, differ, xor-lt, xor-self, xor-zero-r}
-use Rattle.bits.specs.Bits.{bitOf, bitAt}
+use Rattle.bits.specs.Bits.{bitOf}
 use Rattle.bits.proofs.Tabulate.{length-tabulate, getD-tabulate}
 use Rattle.bits.proofs.Count.{count-cong}
 use Rattle.bits.proofs.Value.{bit-xor, bit-ext}

@@ -8,7 +8,7 @@ use native.Mathlib.Omega.{arith}
 use Rattle.lanes.specs.Permutation.{Places, partner}
 use Rattle.lanes.proofs.Rows.{lt-or-le}
 use Rattle.lanes.proofs.Return.{across}
-use Rattle.demands.specs.ReedSolomon.{Labels, Spans, Labelled, SpansLabel}
+use Rattle.demands.specs.ReedSolomon.{Labels, Labelled, SpansLabel}
 
 -- symbol s of a lane is carried as symbol slot s of the lane that it goes across to, so in that lane's word slot s / 11
 abbrev pub slot : ℕ → ℕ

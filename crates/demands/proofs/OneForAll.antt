@@ -1,16 +1,15 @@
 -- `OneForAll` and `TwoFlips`: numbers hang on lengths and lock, flags and differences on the flips alone.
 -- Assumes nothing.
-use mathlib.Core.Path.{_≡_, refl, sym, ap, ap₂, _∙_, subst}
-use mathlib.Core.Logic.{_≢_, _↔_}
+use mathlib.Core.Path.{_≡_, sym, ap, ap₂, _∙_, subst}
+use mathlib.Core.Logic.{_≢_}
 use mathlib.Core.List.{List}
 use Prim.Native.Nat.{ℕ, zero, suc, _+_, _*_, _/_, _%_, _≤_, _<_}
 use native.Mathlib.Omega.{arith}
-use lib.ListN.{length, getD}
+use lib.ListN.{getD}
 use lib.Bits.{differ}
 use Rattle.bits.proofs.Value.{differ-mod}
 use Rattle.bits.proofs.Fields.{bitAt-lt}
 use Rattle.bch.specs.Code.{distance}
-use Rattle.bch.specs.Mend.{mend, flagOf}
 use Rattle.bch.proofs.Theorems.{nothing, mends-two}
 use Rattle.lanes.specs.Permutation.{Places}
 use Rattle.lanes.specs.Interleaver.{unwovenFrame, unwovenStore}
@@ -19,7 +18,7 @@ use Rattle.lanes.proofs.Return.{deinterleaved-lt}
 use Rattle.symbols.specs.Frame.{arrived}
 use Rattle.symbols.specs.Pilots.{locks}
 use Rattle.symbols.proofs.Return.{arrived-lt}
-use Rattle.framing.specs.Receive.{broughtLanes, receivedFlags}
+use Rattle.framing.specs.Receive.{broughtLanes}
 use Rattle.framing.proofs.Received.{flag-at, number-cong, store-whole, call-done}
 use Rattle.demands.specs.Trial.{hit, Trial, Accepted, flipsIn}
 use Rattle.demands.specs.OneForAll.{Wrong, OneForAll, TwoFlips}

@@ -12,7 +12,6 @@ use lib.Bits.{differ}
 use borrow.Author.Tests.{ltb-true, eqb-true, eqb-false, not-true, lt-ltb, eq-eqb}
 use Rattle.bits.specs.Bits.{bitOf}
 use Rattle.bits.proofs.Count.{count-some, count-pos}
-use Rattle.bch.specs.Code.{distance}
 use Rattle.bch.proofs.Theorems.{two-vanish}
 use Rattle.lanes.specs.Permutation.{Lanes, Places, named}
 use Rattle.lanes.specs.Stream.{streamBit, interleaved, deinterleaved}
@@ -23,7 +22,7 @@ use Rattle.symbols.proofs.Return.{arrived-lt}
 use Rattle.framing.specs.Receive.{broughtLanes}
 use Rattle.framing.proofs.Received.{passed, brought-bit}
 use Rattle.demands.specs.Trial.{Trial, Accepted, flipsIn}
-use Rattle.demands.specs.ReedSolomon.{Labels, Labelled, carries, total, heavyWords, wrongSymbol, wrongSymbols, ReedSolomonBound, Bounded, FourPairs}
+use Rattle.demands.specs.ReedSolomon.{Labels, Labelled, carries, heavyWords, wrongSymbol, wrongSymbols, ReedSolomonBound, Bounded, FourPairs}
 use Rattle.demands.proofs.Trial.{differs-by}
 use Rattle.demands.proofs.Totals.{both, left, right, total-inject}
 use Rattle.demands.proofs.Labels.{slot, spans-label, one-a-word}

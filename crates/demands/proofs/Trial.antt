@@ -1,8 +1,8 @@
 -- A trial, from its calls' outcomes: what comes back differs from the undamaged by what the flips alone would bring. `FlipsCounted` and `TrialsExist`.
 -- Assumes nothing.
-use mathlib.Core.Path.{_≡_, refl, sym, ap, ap₂, _∙_}
+use mathlib.Core.Path.{_≡_, refl, sym, ap, _∙_}
 use mathlib.Core.List.{List}
-use Prim.Native.Nat.{ℕ, zero, suc, _+_, _*_, _/_, _%_, _≤_, _<_}
+use Prim.Native.Nat.{ℕ, zero, suc, _+_, _*_, _/_, _%_, _<_}
 use native.Mathlib.Omega.{arith}
 use lib.ListN.{length, getD, replicate}
 use lib.Bits.{differ}
@@ -14,8 +14,8 @@ use Rattle.lanes.proofs.Return.{deinterleaved-cong, deinterleaved-zip}
 use Rattle.symbols.specs.Frame.{arrived}
 use Rattle.symbols.specs.Pilots.{pilots}
 use Rattle.framing.specs.Call.{after}
-use Rattle.framing.specs.Send.{sentFrame, sendNumber, Sends}
-use Rattle.framing.specs.Receive.{broughtLanes, receivedLanes, receivedStore, receivedFlags, receiveNumber, Receives}
+use Rattle.framing.specs.Send.{sentFrame, sendNumber}
+use Rattle.framing.specs.Receive.{broughtLanes, receivedLanes, receivedStore, receivedFlags, receiveNumber}
 use Rattle.framing.specs.Stream.{Sent, Received}
 use Rattle.framing.proofs.Receiving.{lent}
 use Rattle.framing.proofs.Stream.{frame-sent, sent-pilot}

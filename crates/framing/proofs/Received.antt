@@ -1,16 +1,14 @@
 -- A run of receiving, from its calls' outcomes: what its numbers hang on, and the stream that comes back if none is refused.
 -- Assumes nothing.
-use mathlib.Core.Path.{_≡_, refl, sym, ap, ap₂, _∙_, subst}
+use mathlib.Core.Path.{_≡_, sym, ap, ap₂, _∙_, subst}
 use mathlib.Core.Bool.{Bool, true, false, cond}
 use mathlib.Core.List.{List}
 use Prim.Native.Nat.{ℕ, zero, suc, _+_, _*_, _/_, _%_, _^_, _<_, _≤_}
-use native.Mathlib.Nat.{mod-lt, lt-of-lt-of-le}
 use native.Mathlib.Omega.{arith}
-use lib.Dec.{eqb, lit<, lit≤}
+use lib.Dec.{eqb}
 use lib.ListN.{length, getD, length-replicate}
-use lib.Pow.{shr-lt}
-use Rattle.bits.specs.Bits.{bitOf, bitAt}
-use Rattle.bits.specs.Words.{wordAt, halfOf}
+use Rattle.bits.specs.Bits.{bitOf}
+use Rattle.bits.specs.Words.{wordAt}
 use Rattle.bits.proofs.Tabulate.{getD-tabulate}
 use Rattle.bits.proofs.Value.{bit-lt}
 use Rattle.bits.proofs.Fields.{bytes-bit}
@@ -20,12 +18,11 @@ use Rattle.bch.specs.Word.{mendedFrame, flagsOf}
 use Rattle.bch.proofs.Theorems.{mended-lt}
 use Rattle.lanes.specs.Permutation.{Places}
 use Rattle.lanes.specs.Words.{wordLanes}
-use Rattle.lanes.specs.Stream.{streamBit, deinterleaved, Unwoven}
+use Rattle.lanes.specs.Stream.{streamBit, deinterleaved}
 use Rattle.lanes.proofs.Stream.{unwoven-stream}
 use Rattle.symbols.specs.Frame.{arrived, wordsOf}
 use Rattle.symbols.specs.Pilots.{locks}
 use Rattle.symbols.proofs.Return.{arrived-lt}
-use Rattle.framing.specs.Call.{unless, after}
 use Rattle.framing.specs.Receive.{broughtLanes, receivedLanes, receivedStore, receivedFlags, receiveNumber}
 use Rattle.framing.specs.Stream.{Received}
 use Rattle.framing.proofs.Receiving.{store-length, done}

@@ -9,17 +9,18 @@ use native.Mathlib.Numerals.{add-one}
 use lib.Arith.{digits-div, digits-mod}
 use native.Mathlib.Omega.{arith}
 use lib.Dec.{eqb, ltb, lit<}
-use lib.ListN.{getD, set, length, take, drop}
+use lib.ListN.{getD, set, length, take, drop, List·getD-append}
+use lib.Seq.{getD-append-add}
 use lib.Bits.{bitAnd, bitXor, and-le-l, xor-lt, xor-shr, xor-mod}
 use borrow.Author.Tests.{lt-ltb, le-ltb}
 use Rattle.bits.specs.Bits.{tabulate, number, bitOf, bitAt, bytes}
-use Rattle.bits.proofs.Tabulate.{tabulate-cong}
+use Rattle.bits.proofs.Tabulate.{tabulate-cong, getD-tabulate}
 use Rattle.bits.proofs.Filling.{Filling, filling-turn, filling-at, filling-put}
 use Rattle.bits.proofs.Value.{value-cong, bit-lt, bit-and, number-bits}
 use Rattle.bits.proofs.Fields.{Bytes, bitAt-lt, bitAt-byte, bytes-bit, bytes-cong, bytes-bytes}
 use Rattle.lanes.specs.Permutation.{Lanes, Places, named, partner, permuted, lanesOf, frameOf}
 use Rattle.lanes.specs.Interleaver.{Rows, stored, woven, rowAt, storeBit, storeNext}
-use Rattle.lanes.specs.Blocks.{Merged, IsMasks, blockByte, outFrom, keptFrom, source, IsSource}
+use Rattle.lanes.specs.Blocks.{mergedByte, IsMasks, blockStart, blockByte, outFrom, keptFrom, source, IsSource}
 
 -- ---- the permutation
 
@@ -27,16 +28,18 @@ bit-sum : (n a b i : ℕ) → bitOf n (bitXor a b) i ≡ bitXor (bitOf n a i) (b
 unfolding bitOf
 bit-sum n a b i = let k = n - 1 - i in ap (λ (x : ℕ). x % 2) (xor-shr a b k) ∙ xor-mod (a / 2 ^ k) (b / 2 ^ k) 1
 
--- `a ^ ((a ^ b) & m)`
-pub merged : (a b m : ℕ) → a < 256 → b < 256 → Merged a b m (bitXor a (bitAnd (bitXor a b) m))
-merged a b m ha hb =
-    record {
-      byte = xor-lt 8 a (bitAnd (bitXor a b) m) ha (lt-of-le-of-lt (and-le-l (bitXor a b) m) (xor-lt 8 a b ha hb));
-      bit = λ k h.
-          bit-sum 8 a (bitAnd (bitXor a b) m) k
-          ∙ ap (bitXor (bitOf 8 a k)) (bit-and 8 (bitXor a b) m k ∙ ap (λ (x : ℕ). bitAnd x (bitOf 8 m k)) (bit-sum 8 a b k))
-          ∙ pick (bitOf 8 a k) (bitOf 8 b k) (bitOf 8 m k) (bit-lt 8 a k) (bit-lt 8 b k) (bit-lt 8 m k);
-    }
+-- a merged byte is a byte
+merged-lt : (a b m : ℕ) → a < 256 → b < 256 → mergedByte a b m < 256
+unfolding mergedByte
+merged-lt a b m ha hb = xor-lt 8 a (bitAnd (bitXor a b) m) ha (lt-of-le-of-lt (and-le-l (bitXor a b) m) (xor-lt 8 a b ha hb))
+
+-- and has the bits of b where m has a bit, else those of a
+merged-bit : (a b m k : ℕ) → bitOf 8 (mergedByte a b m) k ≡ cond (eqb (bitOf 8 m k) 1) (bitOf 8 b k) (bitOf 8 a k)
+unfolding mergedByte
+merged-bit a b m k =
+    bit-sum 8 a (bitAnd (bitXor a b) m) k
+    ∙ ap (bitXor (bitOf 8 a k)) (bit-and 8 (bitXor a b) m k ∙ ap (λ (x : ℕ). bitAnd x (bitOf 8 m k)) (bit-sum 8 a b k))
+    ∙ pick (bitOf 8 a k) (bitOf 8 b k) (bitOf 8 m k) (bit-lt 8 a k) (bit-lt 8 b k) (bit-lt 8 m k)
   where
     pick : (x y z : ℕ) → x < 2 → y < 2 → z < 2 → bitXor x (bitAnd (bitXor x y) z) ≡ cond (eqb z 1) y x
     pick zero zero zero hx hy hz = refl
@@ -91,12 +94,26 @@ symbol-place : (b m : ℕ) → m < 40 → m / 10 ≡ (40 * b + m) / 10 % 4
 symbol-place b m h = omega arith
 
 -- byte i of the permuted frame
-pub permuted-byte : (t : List ℕ) → IsMasks t → (e i v : ℕ) (x : List ℕ) → e < 16 → i < 5280
-    → Merged (getD x i 0) (getD x ((i + 2640) % 5280) 0) (getD t (5 * e + i % 5) 0) v
-    → v ≡ number 8 (λ k. permuted (named e) (lanesOf x) ((8 * i + k) / 1320) ((8 * i + k) % 1320))
+abbrev pub permutedByte : ℕ → List ℕ → ℕ → ℕ
+permutedByte e x i = number 8 (λ k. permuted (named e) (lanesOf x) ((8 * i + k) / 1320) ((8 * i + k) % 1320))
+
+-- it is the byte that stands there, merged with its partner's
+permuted-byte : (t : List ℕ) → IsMasks t → (e i : ℕ) (x : List ℕ) → Bytes x → e < 16 → i < 5280
+    → mergedByte (getD x i 0) (getD x ((i + 2640) % 5280) 0) (getD t (5 * e + i % 5) 0) ≡ permutedByte e x i
 unfolding permuted
-permuted-byte t T e i v x he hi M = by-bits v _ (M .byte) bit ∙ sym (lane-byte 165 five-165 (lit< tt) (permuted (named e) (lanesOf x)) i)
+permuted-byte t T e i x X he hi =
+    by-bits (mergedByte own other mask) _ (merged-lt own other mask (X .byte i) (X .byte ((i + 2640) % 5280))) bit
+    ∙ sym (lane-byte 165 five-165 (lit< tt) (permuted (named e) (lanesOf x)) i)
   where
+    own : ℕ
+    own = getD x i 0
+
+    other : ℕ
+    other = getD x ((i + 2640) % 5280) 0
+
+    mask : ℕ
+    mask = getD t (5 * e + i % 5) 0
+
     p : ℕ
     p = i / 165
 
@@ -106,50 +123,53 @@ permuted-byte t T e i v x he hi M = by-bits v _ (M .byte) bit ∙ sym (lane-byte
     c : ℕ
     c = i % 5
 
-    bit : (k : ℕ) → k < 8 → bitOf 8 v k ≡ permuted (named e) (lanesOf x) p (40 * b + (8 * c + k))
+    bit : (k : ℕ) → k < 8 → bitOf 8 (mergedByte own other mask) k ≡ permuted (named e) (lanesOf x) p (40 * b + (8 * c + k))
     bit k h =
         let r : i % 165 % 5 ≡ c = five-165 i in
-        let own : 8 * i + k ≡ 1320 * p + (40 * b + (8 * c + k)) = omega arith in
-        let there : (i + 2640) % 5280 ≡ 165 * partner p + i % 165 = omega arith in
-        let other : 8 * ((i + 2640) % 5280) + k ≡ 1320 * partner p + (40 * b + (8 * c + k)) = omega arith in
-        M .bit k h
+        let here : 8 * i + k ≡ 1320 * p + (40 * b + (8 * c + k)) = omega arith in
+        let place : (i + 2640) % 5280 ≡ 165 * partner p + i % 165 = omega arith in
+        let there : 8 * ((i + 2640) % 5280) + k ≡ 1320 * partner p + (40 * b + (8 * c + k)) = omega arith in
+        merged-bit own other mask k
         ∙ (λ z. cond ((T .entry e c k he (omega arith) h ∙ ap (named e) (symbol-place b (8 * c + k) (omega arith))) z)
-        ((sym (bitAt-byte x ((i + 2640) % 5280) k h) ∙ ap (bitAt x) other) z)
-        ((sym (bitAt-byte x i k h) ∙ ap (bitAt x) own) z))
+        ((sym (bitAt-byte x ((i + 2640) % 5280) k h) ∙ ap (bitAt x) there) z)
+        ((sym (bitAt-byte x i k h) ∙ ap (bitAt x) here) z))
 
 -- ---- whole blocks
 
-module _ (x s : List ℕ) where
+-- a frame x with its store s behind it
+module _ (x s : List ℕ) (long : length x ≡ 5280) where
   -- a bit of one of the frame's blocks, and of one of the store's
-  out-bit : (p b c k : ℕ) → b < 33 → k < 8 → bitOf 8 (blockByte x s p b c) k ≡ lanesOf x p (40 * b + (8 * c + k))
-  unfolding blockByte
-  out-bit p b c k hb hk =
-      let e : 8 * (165 * p + 5 * b + c) + k ≡ 1320 * p + (40 * b + (8 * c + k)) = omega arith in
-      rw (lt-ltb b 33 hb) (sym (bitAt-byte x (165 * p + 5 * b + c) k hk) ∙ ap (bitAt x) e)
+  out-bit : (p b c k : ℕ) → p < 32 → b < 33 → c < 5 → k < 8 → bitOf 8 (blockByte (x ++ s) p b c) k ≡ lanesOf x p (40 * b + (8 * c + k))
+  unfolding blockByte blockStart
+  out-bit p b c k hp hb hc hk =
+      let i : ℕ = 165 * p + 5 * b + c in
+      let l : i < length x = omega arith in
+      let e : 8 * i + k ≡ 1320 * p + (40 * b + (8 * c + k)) = omega arith in
+      rw (lt-ltb b 33 hb) (ap (λ (v : ℕ). bitOf 8 v k) (List·getD-append x s 0 i l) ∙ sym (bitAt-byte x i k hk) ∙ ap (bitAt x) e)
 
-  kept-bit : (p q c k : ℕ) → k < 8 → bitOf 8 (blockByte x s p (33 + q) c) k ≡ stored s p (40 * q + (8 * c + k))
-  unfolding blockByte
+  kept-bit : (p q c k : ℕ) → k < 8 → bitOf 8 (blockByte (x ++ s) p (33 + q) c) k ≡ stored s p (40 * q + (8 * c + k))
+  unfolding blockByte blockStart
   kept-bit p q c k hk =
+      let i : ℕ = 90 * p + 5 * q + c in
       let d : 33 + q - 33 ≡ q = omega arith in
       let l : 33 ≤ 33 + q = omega arith in
-      let e : 8 * (90 * p + 5 * q + c) + k ≡ 720 * p + (40 * q + (8 * c + k)) = omega arith in
-      rw (le-ltb (33 + q) 33 l, d) (sym (bitAt-byte s (90 * p + 5 * q + c) k hk) ∙ ap (bitAt s) e)
+      let f : 5280 + 90 * p + 5 * q + c ≡ length x + i = omega arith in
+      let e : 8 * i + k ≡ 720 * p + (40 * q + (8 * c + k)) = omega arith in
+      rw (le-ltb (33 + q) 33 l, d)
+      (ap (λ (v : ℕ). bitOf 8 v k) (ap (λ (j : ℕ). getD (x ++ s) j 0) f ∙ getD-append-add x s i 0) ∙ sym (bitAt-byte s i k hk) ∙ ap (bitAt s) e)
 
-  block-lt : Bytes x → Bytes s → (p b c : ℕ) → blockByte x s p b c < 256
-  unfolding blockByte
-  block-lt X S p b c = go (ltb b 33)
-    where
-      go : (t : Bool) → cond t (getD x (165 * p + 5 * b + c) 0) (getD s (90 * p + 5 * (b - 33) + c) 0) < 256
-      go true = X .byte (165 * p + 5 * b + c)
-      go false = S .byte (90 * p + 5 * (b - 33) + c)
+-- a byte of a block is a byte
+block-lt : (z : List ℕ) → Bytes z → (p b c : ℕ) → blockByte z p b c < 256
+unfolding blockByte
+block-lt z Z p b c = Z .byte (blockStart p b + c)
 
 -- what the code stores for the table t of a stage
-module _ (R : Rows) (t : List ℕ) (T : IsSource R t) (x s : List ℕ) (X : Bytes x) (S : Bytes s) (y : Lanes)
+module _ (R : Rows) (t : List ℕ) (T : IsSource R t) (x s : List ℕ) (long : length x ≡ 5280) (Z : Bytes (x ++ s)) (y : Lanes)
     (same : (p i : ℕ) → p < 32 → i < 1320 → lanesOf x p i ≡ y p i) where
   -- the 33 blocks that come out
-  out-byte : (p b c : ℕ) → p < 32 → b < 33 → c < 5 → blockByte x s p (source R b) c ≡ number 8 (λ k. woven R s y p (40 * b + (8 * c + k)))
+  out-byte : (p b c : ℕ) → p < 32 → b < 33 → c < 5 → blockByte (x ++ s) p (source R b) c ≡ number 8 (λ k. woven R s y p (40 * b + (8 * c + k)))
   unfolding woven source outFrom
-  out-byte p b c hp hb hc = by-bits (blockByte x s p (source R b) c) _ (block-lt x s X S p (source R b) c) bit
+  out-byte p b c hp hb hc = by-bits (blockByte (x ++ s) p (source R b) c) _ (block-lt (x ++ s) Z p (source R b) c) bit
     where
       r : ℕ
       r = b % 3
@@ -166,13 +186,13 @@ module _ (R : Rows) (t : List ℕ) (T : IsSource R t) (x s : List ℕ) (X : Byte
       goal : Bool → ℕ → ℕ
       goal g m = cond g (stored s p (40 * (R .start r + (d - suc n)) + m)) (y p (40 * (3 * (n - d) + r) + m))
 
-      moved : (g : Bool) (k : ℕ) → k < 8 → bitOf 8 (blockByte x s p (from g) c) k ≡ goal g (8 * c + k)
-      moved true k h = kept-bit x s p (R .start r + (d - suc n)) c k h
+      moved : (g : Bool) (k : ℕ) → k < 8 → bitOf 8 (blockByte (x ++ s) p (from g) c) k ≡ goal g (8 * c + k)
+      moved true k h = kept-bit x s long p (R .start r + (d - suc n)) c k h
       moved false k h =
           let l : 3 * (n - d) + r < 33 = omega arith in
-          out-bit x s p (3 * (n - d) + r) c k l h ∙ same p (40 * (3 * (n - d) + r) + (8 * c + k)) hp (omega arith)
+          out-bit x s long p (3 * (n - d) + r) c k hp l hc h ∙ same p (40 * (3 * (n - d) + r) + (8 * c + k)) hp (omega arith)
 
-      bit : (k : ℕ) → k < 8 → bitOf 8 (blockByte x s p (source R b) c) k ≡ woven R s y p (40 * b + (8 * c + k))
+      bit : (k : ℕ) → k < 8 → bitOf 8 (blockByte (x ++ s) p (source R b) c) k ≡ woven R s y p (40 * b + (8 * c + k))
       bit k h =
           let m : ℕ = 8 * c + k in
           let e : (40 * b + m) / 40 ≡ b = omega arith in
@@ -180,9 +200,9 @@ module _ (R : Rows) (t : List ℕ) (T : IsSource R t) (x s : List ℕ) (X : Byte
           rw (lt-ltb b 33 hb, e, f) (moved (ltb n d) k h)
 
   -- the 18 that are kept
-  kept-byte : (p j c : ℕ) → p < 32 → j < 18 → c < 5 → blockByte x s p (source R (33 + j)) c ≡ number 8 (λ k. storeBit R s y p (40 * j + (8 * c + k)))
+  kept-byte : (p j c : ℕ) → p < 32 → j < 18 → c < 5 → blockByte (x ++ s) p (source R (33 + j)) c ≡ number 8 (λ k. storeBit R s y p (40 * j + (8 * c + k)))
   unfolding storeBit source keptFrom
-  kept-byte p j c hp hj hc = by-bits (blockByte x s p (source R (33 + j)) c) _ (block-lt x s X S p (source R (33 + j)) c) bit
+  kept-byte p j c hp hj hc = by-bits (blockByte (x ++ s) p (source R (33 + j)) c) _ (block-lt (x ++ s) Z p (source R (33 + j)) c) bit
     where
       r : ℕ
       r = rowAt R j
@@ -204,13 +224,13 @@ module _ (R : Rows) (t : List ℕ) (T : IsSource R t) (x s : List ℕ) (X : Byte
       goal : Bool → ℕ → ℕ
       goal g m = cond g (y p (40 * (3 * (11 - suc q) + r) + m)) (stored s p (40 * (R .start r + (q - 11)) + m))
 
-      moved : (g : Bool) (k : ℕ) → k < 8 → bitOf 8 (blockByte x s p (from g) c) k ≡ goal g (8 * c + k)
+      moved : (g : Bool) (k : ℕ) → k < 8 → bitOf 8 (blockByte (x ++ s) p (from g) c) k ≡ goal g (8 * c + k)
       moved true k h =
           let l : 3 * (11 - suc q) + r < 33 = omega (arith, row-lt) in
-          out-bit x s p (3 * (11 - suc q) + r) c k l h ∙ same p (40 * (3 * (11 - suc q) + r) + (8 * c + k)) hp (omega arith)
-      moved false k h = kept-bit x s p (R .start r + (q - 11)) c k h
+          out-bit x s long p (3 * (11 - suc q) + r) c k hp l hc h ∙ same p (40 * (3 * (11 - suc q) + r) + (8 * c + k)) hp (omega arith)
+      moved false k h = kept-bit x s long p (R .start r + (q - 11)) c k h
 
-      bit : (k : ℕ) → k < 8 → bitOf 8 (blockByte x s p (source R (33 + j)) c) k ≡ storeBit R s y p (40 * j + (8 * c + k))
+      bit : (k : ℕ) → k < 8 → bitOf 8 (blockByte (x ++ s) p (source R (33 + j)) c) k ≡ storeBit R s y p (40 * j + (8 * c + k))
       bit k h =
           let m : ℕ = 8 * c + k in
           let e : (40 * j + m) / 40 ≡ j = omega arith in
@@ -219,21 +239,21 @@ module _ (R : Rows) (t : List ℕ) (T : IsSource R t) (x s : List ℕ) (X : Byte
           let d : 33 + j - 33 ≡ j = omega arith in
           rw (le-ltb (33 + j) 33 l, d, e, f) (moved (ltb q 11) k h)
 
-  pub out-is : tabulate 5280 (λ i. blockByte x s (i / 165) (getD t (i % 165 / 5) 0) (i % 5)) ≡ frameOf (woven R s y)
+  pub out-is : tabulate 5280 (λ i. blockByte (x ++ s) (i / 165) (getD t (i % 165 / 5) 0) (i % 5)) ≡ frameOf (woven R s y)
   unfolding frameOf bytes
   out-is =
       tabulate-cong 5280 _ _
       (λ i h.
-      ap (λ (b : ℕ). blockByte x s (i / 165) b (i % 5)) (T .entry (i % 165 / 5) (omega arith))
+      ap (λ (b : ℕ). blockByte (x ++ s) (i / 165) b (i % 5)) (T .entry (i % 165 / 5) (omega arith))
       ∙ out-byte (i / 165) (i % 165 / 5) (i % 5) (omega arith) (omega arith) (omega arith)
       ∙ sym (lane-byte 165 five-165 (lit< tt) (woven R s y) i))
 
-  pub kept-is : tabulate 2880 (λ i. blockByte x s (i / 90) (getD t (33 + i % 90 / 5) 0) (i % 5)) ≡ storeNext R s y
+  pub kept-is : tabulate 2880 (λ i. blockByte (x ++ s) (i / 90) (getD t (33 + i % 90 / 5) 0) (i % 5)) ≡ storeNext R s y
   unfolding storeNext bytes
   kept-is =
       tabulate-cong 2880 _ _
       (λ i h.
-      ap (λ (b : ℕ). blockByte x s (i / 90) b (i % 5)) (T .entry (33 + i % 90 / 5) (omega arith))
+      ap (λ (b : ℕ). blockByte (x ++ s) (i / 90) b (i % 5)) (T .entry (33 + i % 90 / 5) (omega arith))
       ∙ kept-byte (i / 90) (i % 90 / 5) (i % 5) (omega arith) (omega arith) (omega arith)
       ∙ sym (lane-byte 90 five-90 (lit< tt) (storeBit R s y) i))
 
@@ -312,49 +332,62 @@ named-16 x s h = ap (λ (b : ℕ). eqb b 1) (go s h)
     go (suc (suc (suc zero))) h = omega arith
     go (suc (suc (suc (suc s)))) h = absurd (omega arith)
 
--- ---- the loop that stores a block a turn
+-- ---- the loops that store blocks
 
-pub block-turn : (g : ℕ → ℕ) {n : ℕ} {out₀ out : List ℕ} (b v0 v1 v2 v3 v4 : ℕ) → Filling g n out₀ out (5 * b) → 5 * b + 5 ≤ n
-    → v0 ≡ g (5 * b) → v1 ≡ g (5 * b + 1) → v2 ≡ g (5 * b + 2) → v3 ≡ g (5 * b + 3) → v4 ≡ g (5 * b + 4)
-    → Filling g n out₀ (set (set (set (set (set out (5 * b) v0) (5 * b + 1) v1) (5 * b + 2) v2) (5 * b + 3) v3) (5 * b + 4) v4) (5 * (b + 1))
-block-turn g {n} {out₀} b v0 v1 v2 v3 v4 F h e0 e1 e2 e3 e4 =
-    let F0 = filling-turn g v0 F (omega arith) e0 in
-    let F1 = filling-at g (5 * b + 1) v1 (omega arith) F0 (omega arith) e1 in
-    let F2 = filling-at g (5 * b + 2) v2 (omega arith) F1 (omega arith) e2 in
-    let F3 = filling-at g (5 * b + 3) v3 (omega arith) F2 (omega arith) e3 in
-    let F4 = filling-at g (5 * b + 4) v4 (omega arith) F3 (omega arith) e4 in
+-- byte k of sixteen blocks of the permuted frame
+pub permuted-at : (t : List ℕ) → IsMasks t → (e b k : ℕ) (row x : List ℕ) → Bytes x → e < 16 → b < 66 → k < 80
+    → row ≡ tabulate 80 (λ i. getD t (5 * e + i % 5) 0)
+    → mergedByte (getD x (80 * b + k) 0) (getD x ((80 * b + 2640) % 5280 + k) 0) (getD row k 0) ≡ permutedByte e x (80 * b + k)
+permuted-at t T e b k row x X he hb hk r =
+    let i : ℕ = 80 * b + k in
+    let o : (80 * b + 2640) % 5280 + k ≡ (i + 2640) % 5280 = omega arith in
+    let c : k % 5 ≡ i % 5 = omega arith in
+    let m : getD row k 0 ≡ getD t (5 * e + i % 5) 0 =
+    ap (λ (l : List ℕ). getD l k 0) r ∙ getD-tabulate 80 _ k 0 hk ∙ ap (λ (j : ℕ). getD t (5 * e + j) 0) c in
+    (λ z. mergedByte (getD x i 0) (getD x (o z) 0) (m z)) ∙ permuted-byte t T e i x X he (omega arith)
+
+-- byte i of the blocks of lane p that the entries of the table t lead to, from entry first on
+abbrev pub movedByte : (z t : List ℕ) (p first i : ℕ) → ℕ
+movedByte z t p first i = blockByte z p (getD t (first + i / 5) 0) (i % 5)
+
+-- a turn that stores the block of entry b, which begins at from
+pub block-turn : (z t : List ℕ) (p first b from : ℕ) {n : ℕ} {out₀ out : List ℕ} → from ≡ blockStart p (getD t (first + b) 0)
+    → Filling (movedByte z t p first) n out₀ out (5 * b) → 5 * b + 5 ≤ n
+    → Filling (movedByte z t p first) n out₀
+    (set
+    (set (set (set (set out (5 * b) (getD z from 0)) (5 * b + 1) (getD z (from + 1) 0)) (5 * b + 2) (getD z (from + 2) 0)) (5 * b + 3) (getD z (from + 3) 0))
+    (5 * b + 4) (getD z (from + 4) 0))
+    (5 * (b + 1))
+unfolding blockByte
+block-turn z t p first b from {n} {out₀} q F h =
+    let F0 = filling-turn g (getD z from 0) F (omega arith) (at 0 (5 * b) from (lit< tt) (omega arith) (omega arith)) in
+    let F1 = filling-at g (5 * b + 1) (getD z (from + 1) 0) (omega arith) F0 (omega arith) (at 1 (5 * b + 1) (from + 1) (lit< tt) refl refl) in
+    let F2 = filling-at g (5 * b + 2) (getD z (from + 2) 0) (omega arith) F1 (omega arith) (at 2 (5 * b + 2) (from + 2) (lit< tt) refl refl) in
+    let F3 = filling-at g (5 * b + 3) (getD z (from + 3) 0) (omega arith) F2 (omega arith) (at 3 (5 * b + 3) (from + 3) (lit< tt) refl refl) in
+    let F4 = filling-at g (5 * b + 4) (getD z (from + 4) 0) (omega arith) F3 (omega arith) (at 4 (5 * b + 4) (from + 4) (lit< tt) refl refl) in
     let next : 5 * b + 4 + 1 ≡ 5 * (b + 1) = omega arith in
     subst (Filling g n out₀ _) next F4
+  where
+    g : ℕ → ℕ
+    g = movedByte z t p first
 
--- byte c of block b of the permuted frame, from the byte there, in the partner lane
-pub permuted-at : (t : List ℕ) → IsMasks t → (e b c i there m v : ℕ) (x : List ℕ) → e < 16 → b < 1056 → c < 5
-    → i ≡ 5 * b + c → there ≡ (5 * b + 2640) % 5280 + c → m ≡ 5 * e + c → Merged (getD x i 0) (getD x there 0) (getD t m 0) v
-    → v ≡ number 8 (λ k. permuted (named e) (lanesOf x) ((8 * i + k) / 1320) ((8 * i + k) % 1320))
-permuted-at t T e b c i there m v x he hb hc ei eo em M =
-    let o : there ≡ (i + 2640) % 5280 = omega arith in
-    let l : m ≡ 5 * e + i % 5 = omega arith in
-    permuted-byte t T e i v x he (omega arith)
-    (subst (λ (j : ℕ). Merged (getD x i 0) (getD x j 0) (getD t (5 * e + i % 5) 0) v) o (subst (λ (j : ℕ). Merged (getD x i 0) (getD x there 0) (getD t j 0) v) l M))
+    at : (c i j : ℕ) → c < 5 → i ≡ 5 * b + c → j ≡ from + c → getD z j 0 ≡ g i
+    at c i j h e f =
+        let d : b ≡ i / 5 = omega arith in
+        let r : c ≡ i % 5 = omega arith in
+        (λ w. getD z (f w) 0) ∙ (λ w. getD z (q w + c) 0) ∙ (λ w. getD z (blockStart p (getD t (first + d w) 0) + r w) 0)
 
--- byte c of the block that entry b leads to is byte 5 b + c
-pub block-at : (x s t : List ℕ) (p first b c i : ℕ) {v : ℕ} → c < 5 → i ≡ 5 * b + c → v ≡ blockByte x s p (getD t (first + b) 0) c
-    → v ≡ blockByte x s p (getD t (first + i / 5) 0) (i % 5)
-block-at x s t p first b c i h e q =
-    let d : b ≡ i / 5 = omega arith in
-    let r : c ≡ i % 5 = omega arith in
-    q ∙ (λ z. blockByte x s p (getD t (first + d z) 0) (r z))
-
--- the same blocks counted over the lanes: byte k of lane p of L bytes
-pub lane-block : (x s t : List ℕ) (L first p k : ℕ) → ((i : ℕ) → i % L % 5 ≡ i % 5) → k < L
-    → blockByte x s p (getD t (first + k / 5) 0) (k % 5) ≡ blockByte x s ((L * p + k) / L) (getD t (first + (L * p + k) % L / 5) 0) ((L * p + k) % 5)
-lane-block x s t L first p k five h =
+-- the same bytes counted over the lanes: byte k of lane p of L bytes
+pub lane-block : (z t : List ℕ) (L first p k : ℕ) → ((i : ℕ) → i % L % 5 ≡ i % 5) → k < L
+    → movedByte z t p first k ≡ blockByte z ((L * p + k) / L) (getD t (first + (L * p + k) % L / 5) 0) ((L * p + k) % 5)
+lane-block z t L first p k five h =
     let e : p * L + k ≡ L * p + k = ap (λ (x : ℕ). x + k) (mul-comm p L) in
     let d : p ≡ (L * p + k) / L = sym (digits-div p h) ∙ ap (λ (x : ℕ). x / L) e in
     let r : k ≡ (L * p + k) % L = sym (digits-mod p h) ∙ ap (λ (x : ℕ). x % L) e in
     let c : k % 5 ≡ (L * p + k) % 5 = ap (λ (x : ℕ). x % 5) r ∙ five (L * p + k) in
-    λ z. blockByte x s (d z) (getD t (first + r z / 5) 0) (c z)
+    λ w. blockByte z (d w) (getD t (first + r w / 5) 0) (c w)
 
--- a turn that lends lane p's part of L bytes
+-- a turn that lends the part of number p of L bytes: a lane, or sixteen blocks
 pub lane-turn : (f : ℕ → ℕ) {n : ℕ} {out₀ out : List ℕ} (L p e : ℕ) (part : List ℕ) (w : ℕ → ℕ) → Filling f n out₀ out (L * p) → e ≡ L * p + L → e ≤ n
     → part ≡ tabulate (length (take (e - L * p) (drop (L * p) out))) w → ((k : ℕ) → k < L → w k ≡ f (L * p + k))
     → Filling f n out₀ (take (L * p) out ++ (part ++ drop (e - L * p) (drop (L * p) out))) (L * (p + 1))

@@ -1,31 +1,43 @@
 -- A whole frame: the permutation and the moved blocks are what the definitions say of it, on the way out and on the way back.
 -- Assumes nothing.
-use mathlib.Core.Path.{_≡_, refl, ap, _∙_}
-use mathlib.Core.List.{List}
+use mathlib.Core.Path.{_≡_, refl, ap, _∙_, subst}
+use mathlib.Core.List.{List, [], _++_, append-nil}
 use Prim.Native.Nat.{ℕ, _+_, _/_, _%_, _<_}
-use lib.ListN.{getD}
-use Rattle.bits.specs.Bits.{tabulate}
+use lib.ListN.{getD, length, take, drop, replicate}
+use lib.Seq.{take-at, drop-at}
+use Rattle.bits.specs.Bits.{tabulate, copied}
+use Rattle.bits.proofs.Filling.{copied-all}
 use Rattle.bits.proofs.Fields.{Bytes}
 use Rattle.lanes.specs.Permutation.{Lanes, named, permuted, lanesOf, frameOf}
-use Rattle.lanes.specs.Interleaver.{sender, receiver, woven, storeNext, wovenFrame, wovenStore, unwovenFrame, unwovenStore}
+use Rattle.lanes.specs.Interleaver.{sender, receiver, woven, wovenFrame, wovenStore, unwovenFrame, unwovenStore}
 use Rattle.lanes.specs.Blocks.{blockByte}
 use Rattle.lanes.proofs.Entries.{sources, returns, sends, brings}
 use Rattle.lanes.proofs.Bytewise.{out-is, kept-is, frame-bit, permuted-lt, woven-lt, lanes-lt, permuted-cong, named-16}
 
--- what `move_lanes` leaves, for the table t
-abbrev pub moved : (t x s : List ℕ) → List ℕ
-moved t x s = tabulate 5280 (λ i. blockByte x s (i / 165) (getD t (i % 165 / 5) 0) (i % 5))
+-- a buffer of zeros that was given a frame in front, and then its store behind
+pub beside : (x s : List ℕ) {q : List ℕ} → length x ≡ 5280 → length s ≡ 2880 → q ≡ copied s (take 2880 (drop 5280 (x ++ replicate 2880 0)))
+    → take 5280 (x ++ replicate 2880 0) ++ (q ++ drop 2880 (drop 5280 (x ++ replicate 2880 0))) ≡ x ++ s
+beside x s {q} lx ls e =
+    let rest : List ℕ = replicate 2880 0 in
+    let behind : drop 5280 (x ++ rest) ≡ rest = drop-at x rest 5280 lx in
+    let is : q ≡ s = e ∙ ap (λ (l : List ℕ). copied s (take 2880 l)) behind ∙ copied-all s rest ls in
+    let none : drop 2880 (drop 5280 (x ++ rest)) ≡ [] = ap (drop 2880) behind in
+    (λ k. take-at x rest 5280 lx k ++ (is k ++ none k)) ∙ ap (λ (l : List ℕ). x ++ l) (append-nil s)
 
-abbrev pub kept : (t x s : List ℕ) → List ℕ
-kept t x s = tabulate 2880 (λ i. blockByte x s (i / 90) (getD t (33 + i % 90 / 5) 0) (i % 5))
+-- what `move_lanes` leaves of z, a frame with its store behind it, for the table t
+abbrev pub moved : (t z : List ℕ) → List ℕ
+moved t z = tabulate 5280 (λ i. blockByte z (i / 165) (getD t (i % 165 / 5) 0) (i % 5))
+
+abbrev pub kept : (t z : List ℕ) → List ℕ
+kept t z = tabulate 2880 (λ i. blockByte z (i / 90) (getD t (33 + i % 90 / 5) 0) (i % 5))
 
 module _ (e : ℕ) (a s : List ℕ) where
-  pub weave-law : {x old out next : List ℕ} → x ≡ frameOf (permuted (named (e % 16)) (lanesOf a)) → old ≡ s → Bytes x → Bytes old
-      → out ≡ moved sources x old → next ≡ kept sources x old → (out ≡ wovenFrame (named e) a s) × (next ≡ wovenStore (named e) a s)
+  pub weave-law : {x z out next : List ℕ} → x ≡ frameOf (permuted (named (e % 16)) (lanesOf a)) → z ≡ x ++ s → length x ≡ 5280 → Bytes z
+      → out ≡ moved sources z → next ≡ kept sources z → (out ≡ wovenFrame (named e) a s) × (next ≡ wovenStore (named e) a s)
   unfolding wovenFrame wovenStore
-  weave-law {x} {old} ex es X S eo en = (
-    eo ∙ out-is sender sources sends x old X S y same ∙ ap (λ (l : List ℕ). frameOf (woven sender l y)) es,
-    en ∙ kept-is sender sources sends x old X S y same ∙ ap (λ (l : List ℕ). storeNext sender l y) es,
+  weave-law {x} {z} ex ez long Z eo en = (
+    eo ∙ ap (moved sources) ez ∙ out-is sender sources sends x s long (subst Bytes ez Z) y same,
+    en ∙ ap (kept sources) ez ∙ kept-is sender sources sends x s long (subst Bytes ez Z) y same,
   )
     where
       y : Lanes
@@ -36,19 +48,22 @@ module _ (e : ℕ) (a s : List ℕ) where
           ap (λ (l : List ℕ). lanesOf l p i) (ex ∙ permuted-cong (named (e % 16)) (named e) (lanesOf a) (lanesOf a) (named-16 e) (λ q j k l. refl))
           ∙ frame-bit y (permuted-lt (named e) (lanesOf a) (lanes-lt a)) p i hp hi
 
-  pub unweave-law : {old y out next : List ℕ} → old ≡ s → Bytes a → Bytes old → y ≡ moved returns a old → next ≡ kept returns a old
+  pub unweave-law : {x z y out next : List ℕ} → x ≡ a → z ≡ x ++ s → length a ≡ 5280 → Bytes z → y ≡ moved returns z → next ≡ kept returns z
       → out ≡ frameOf (permuted (named (e % 16)) (lanesOf y)) → (out ≡ unwovenFrame (named e) a s) × (next ≡ unwovenStore a s)
   unfolding unwovenFrame unwovenStore
-  unweave-law {old} {y} es A S ey en eo = (
+  unweave-law {x} {z} {y} ex ez long Z ey en eo = (
     eo ∙ permuted-cong (named (e % 16)) (named e) (lanesOf y) w (named-16 e) same,
-    en ∙ kept-is receiver returns brings a old A S (lanesOf a) (λ p i hp hi. refl) ∙ ap (λ (l : List ℕ). storeNext receiver l (lanesOf a)) es,
+    en ∙ ap (kept returns) is ∙ kept-is receiver returns brings a s long (subst Bytes is Z) (lanesOf a) (λ p i hp hi. refl),
   )
     where
       w : Lanes
       w = woven receiver s (lanesOf a)
 
+      is : z ≡ a ++ s
+      is = ez ∙ ap (λ (l : List ℕ). l ++ s) ex
+
       same : (p i : ℕ) → p < 32 → i < 1320 → lanesOf y p i ≡ w p i
       same p i hp hi =
           ap (λ (l : List ℕ). lanesOf l p i)
-          (ey ∙ out-is receiver returns brings a old A S (lanesOf a) (λ p i hp hi. refl) ∙ ap (λ (l : List ℕ). frameOf (woven receiver l (lanesOf a))) es)
+          (ey ∙ ap (moved returns) is ∙ out-is receiver returns brings a s long (subst Bytes is Z) (lanesOf a) (λ p i hp hi. refl))
           ∙ frame-bit w (woven-lt receiver s (lanesOf a) (lanes-lt a)) p i hp hi

@@ -6,14 +6,19 @@ use mathlib.Core.Bool.{cond}
 use mathlib.Core.List.{List}
 use Prim.Native.Nat.{ℕ, suc, _+_, _*_, _-_, _/_, _%_, _<_}
 use lib.Dec.{eqb, ltb}
+use lib.Bits.{bitAnd, bitXor}
 use lib.ListN.{getD}
 use Rattle.bits.specs.Bits.{bitOf}
 use Rattle.lanes.specs.Permutation.{named}
 use Rattle.lanes.specs.Interleaver.{Rows, rowAt}
 
--- byte c of block b of lane p: the 33 blocks of the frame x, then the 18 of the store s
-unfoldable pub blockByte : List ℕ → List ℕ → ℕ → ℕ → ℕ → ℕ
-blockByte x s p b c = cond (ltb b 33) (getD x (165 * p + 5 * b + c) 0) (getD s (90 * p + 5 * (b - 33) + c) 0)
+-- where block b of lane p begins in a frame with its store behind it: the frame has 33 blocks a lane, and the store 18
+unfoldable pub blockStart : ℕ → ℕ → ℕ
+blockStart p b = cond (ltb b 33) (165 * p + 5 * b) (5280 + 90 * p + 5 * (b - 33))
+
+-- byte c of it
+unfoldable pub blockByte : List ℕ → ℕ → ℕ → ℕ → ℕ
+blockByte z p b c = getD z (blockStart p b + c) 0
 
 -- the block that comes out as block b: number b / 3 of row b mod 3
 unfoldable pub outFrom : Rows → ℕ → ℕ
@@ -36,10 +41,9 @@ keptFrom R j = cond (ltb q 11) (3 * (11 - suc q) + r) (33 + (R .start r + (q - 1
 unfoldable pub source : Rows → ℕ → ℕ
 source R b = cond (ltb b 33) (outFrom R b) (keptFrom R (b - 33))
 
--- v has the bits of b where m has a bit, else those of a
-pub record Merged (a b m v : ℕ) : Type 0 where
-  pub byte : v < 256
-  pub bit : (k : ℕ) → k < 8 → bitOf 8 v k ≡ cond (eqb (bitOf 8 m k) 1) (bitOf 8 b k) (bitOf 8 a k)
+-- the bits of b where m has a bit, else those of a
+unfoldable pub mergedByte : ℕ → ℕ → ℕ → ℕ
+mergedByte a b m = bitXor a (bitAnd (bitXor a b) m)
 
 -- the table of masks: bit k of byte c of a block lies in symbol (8 c + k) / 10, which is exchanged if the set named e has its place
 pub record IsMasks (t : List ℕ) : Type 0 where

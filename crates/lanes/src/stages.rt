@@ -6,87 +6,112 @@ ghost use Rattle.bits.specs.Bits.{tabulate};
 ghost use Rattle.bits.proofs.Fields.{Bytes};
 ghost use Rattle.lanes.specs.Permutation.{named, permuted, lanesOf, frameOf};
 ghost use Rattle.lanes.specs.Interleaver.{wovenFrame, wovenStore, unwovenFrame, unwovenStore};
-ghost use Rattle.lanes.specs.Blocks.{Merged, IsMasks, blockByte, Below51};
+ghost use Rattle.lanes.specs.Blocks.{mergedByte, IsMasks, blockStart, blockByte, Below51};
 use crate::tables;
 
 // The bits of b where m has a bit, else those of a.
 fn merge(a: u8, b: u8, m: u8) -> u8
-    ensures { λ v. ⌜ Merged a b m v ⌝ }
+    ensures { λ v. ⌜ v ≡ mergedByte a b m ⌝ }
 {
     a ^ ((a ^ b) & m)
 }
 
-// Each byte of a lane with the bits at the exchanged places from its partner's, block by block.
+// The masks of one set of places for sixteen blocks.
+fn spread(masks: &[u8; 80], exchanged: usize, row: &mut [u8])
+    requires { ⌜ (exchanged < 16) × (length (now row) ≡ 80) ⌝ }
+    ensures { λ _. ⌜ now (row .exit) ≡ tabulate 80 (λ i. getD (now (masks .entry)) (5 * exchanged + i % 5) 0) ⌝ }
+{
+    let m = 5 * exchanged;
+    let mut i: usize = 0;
+    while i < 80 {
+        row[i] = masks[m + i % 5];
+        i += 1;
+    }
+}
+
+// Sixteen blocks from byte at on, merged with those from byte there on: 80 bytes, which the compiler takes sixteen at a time.
+fn merge_blocks(row: &[u8; 80], x: &[u8], at: usize, there: usize, out: &mut [u8])
+    requires { ⌜ (at + 80 ≤ length (now x)) × (there + 80 ≤ length (now x)) × (length (now out) ≡ 80) ⌝ }
+    ensures { λ _. ⌜ now (out .exit) ≡ tabulate (length (now (out .entry))) (λ i. mergedByte (getD (now (x .entry)) (at + i) 0) (getD (now (x .entry)) (there + i) 0) (getD (now (row .entry)) i 0)) ⌝ }
+{
+    let mut i: usize = 0;
+    while i < 80 {
+        out[i] = merge(x[at + i], x[there + i], row[i]);
+        i += 1;
+    }
+}
+
+// Each byte of a lane with the bits at the exchanged places from its partner's, sixteen blocks a turn.
 fn permute(masks: &[u8; 80], exchanged: usize, x: &[u8], out: &mut [u8])
     requires { ⌜ IsMasks (now masks) ⌝ }
     requires { ⌜ (exchanged < 16) × (length (now x) ≡ 5280) × (length (now out) ≡ 5280) ⌝ }
     ensures { λ _. ⌜ now (out .exit) ≡ frameOf (permuted (named exchanged) (lanesOf (now (x .entry)))) ⌝ }
 {
-    let m = 5 * exchanged;
+    let mut row = [0u8; 80];
+    spread(masks, exchanged, &mut row);
     let mut b: usize = 0;
-    while b < 1056 {
-        let at = 5 * b;
-        let there = (at + 2640) % 5280;
-        out[at] = merge(x[at], x[there], masks[m]);
-        out[at + 1] = merge(x[at + 1], x[there + 1], masks[m + 1]);
-        out[at + 2] = merge(x[at + 2], x[there + 2], masks[m + 2]);
-        out[at + 3] = merge(x[at + 3], x[there + 3], masks[m + 3]);
-        out[at + 4] = merge(x[at + 4], x[there + 4], masks[m + 4]);
+    while b < 66 {
+        let at = 80 * b;
+        let end = at + 80;
+        merge_blocks(&row, x, at, (at + 2640) % 5280, &mut out[at..end]);
         b += 1;
     }
 }
 
-// Byte c of block b of lane p: the frame's 33 blocks, then the store's 18.
-fn block_byte(x: &[u8], s: &[u8], p: usize, b: usize, c: usize) -> u8
-    requires { ⌜ (length (now x) ≡ 5280) × (length (now s) ≡ 2880) ⌝ }
-    requires { ⌜ (p < 32) × (b < 51) × (c < 5) ⌝ }
-    ensures { λ v. ⌜ v ≡ blockByte (now (x .entry)) (now (s .entry)) p b c ⌝ }
+// Where block b of lane p begins, in a frame with its store behind it: the frame's 33 blocks a lane, then the store's 18.
+fn block_start(p: usize, b: usize) -> usize
+    requires { ⌜ (p < 32) × (b < 51) ⌝ }
+    ensures { λ r. ⌜ (r ≡ blockStart p b) × (r + 5 ≤ 8160) ⌝ }
 {
     if b < 33 {
-        let at = 165 * p + 5 * b + c;
-        return x[at];
+        return 165 * p + 5 * b;
     }
-    let at = 90 * p + 5 * (b - 33) + c;
-    s[at]
+    5280 + 90 * p + 5 * (b - 33)
 }
 
-// The blocks of lane p, from entry first of the table on, as many as out has room for.
-fn move_blocks(t: &[usize; 51], x: &[u8], s: &[u8], p: usize, first: usize, out: &mut [u8])
+// The blocks of lane p, from entry first of the table on, as many as out has room for. Each is read whole before it is stored, so that the compiler
+// makes two moves of the five bytes.
+fn move_blocks(t: &[usize; 51], z: &[u8], p: usize, first: usize, out: &mut [u8])
     requires { ⌜ Below51 (now t) ⌝ }
-    requires { ⌜ (length (now x) ≡ 5280) × (length (now s) ≡ 2880) ⌝ }
+    requires { ⌜ length (now z) ≡ 8160 ⌝ }
     requires { ⌜ (p < 32) × (first + length (now out) / 5 ≤ 51) × (length (now out) % 5 ≡ 0) ⌝ }
-    ensures { λ _. ⌜ now (out .exit) ≡ tabulate (length (now (out .entry))) (λ i. blockByte (now (x .entry)) (now (s .entry)) p (getD (now (t .entry)) (first + i / 5) 0) (i % 5)) ⌝ }
+    ensures { λ _. ⌜ now (out .exit) ≡ tabulate (length (now (out .entry))) (λ i. blockByte (now (z .entry)) p (getD (now (t .entry)) (first + i / 5) 0) (i % 5)) ⌝ }
 {
     let n = out.len() / 5;
     let mut b: usize = 0;
     while b < n {
-        let k = t[first + b];
+        let from = block_start(p, t[first + b]);
+        let v0 = z[from];
+        let v1 = z[from + 1];
+        let v2 = z[from + 2];
+        let v3 = z[from + 3];
+        let v4 = z[from + 4];
         let at = 5 * b;
-        out[at] = block_byte(x, s, p, k, 0);
-        out[at + 1] = block_byte(x, s, p, k, 1);
-        out[at + 2] = block_byte(x, s, p, k, 2);
-        out[at + 3] = block_byte(x, s, p, k, 3);
-        out[at + 4] = block_byte(x, s, p, k, 4);
+        out[at] = v0;
+        out[at + 1] = v1;
+        out[at + 2] = v2;
+        out[at + 3] = v3;
+        out[at + 4] = v4;
         b += 1;
     }
 }
 
-// Every lane's blocks moved: out and the next store, from the frame x and the store s.
-fn move_lanes(t: &[usize; 51], x: &[u8], s: &[u8], out: &mut [u8], next: &mut [u8])
+// Every lane's blocks moved: out and the next store, from a frame with its store behind it.
+fn move_lanes(t: &[usize; 51], z: &[u8], out: &mut [u8], next: &mut [u8])
     requires { ⌜ Below51 (now t) ⌝ }
-    requires { ⌜ (length (now x) ≡ 5280) × (length (now s) ≡ 2880) × (length (now out) ≡ 5280) × (length (now next) ≡ 2880) ⌝ }
-    ensures { λ _. ⌜ now (out .exit) ≡ tabulate 5280 (λ i. blockByte (now (x .entry)) (now (s .entry)) (i / 165) (getD (now (t .entry)) (i % 165 / 5) 0) (i % 5)) ⌝ }
-    ensures { λ _. ⌜ now (next .exit) ≡ tabulate 2880 (λ i. blockByte (now (x .entry)) (now (s .entry)) (i / 90) (getD (now (t .entry)) (33 + i % 90 / 5) 0) (i % 5)) ⌝ }
-    ensures { λ _. ⌜ Bytes (now (x .entry)) × Bytes (now (s .entry)) ⌝ }
+    requires { ⌜ (length (now z) ≡ 8160) × (length (now out) ≡ 5280) × (length (now next) ≡ 2880) ⌝ }
+    ensures { λ _. ⌜ now (out .exit) ≡ tabulate 5280 (λ i. blockByte (now (z .entry)) (i / 165) (getD (now (t .entry)) (i % 165 / 5) 0) (i % 5)) ⌝ }
+    ensures { λ _. ⌜ now (next .exit) ≡ tabulate 2880 (λ i. blockByte (now (z .entry)) (i / 90) (getD (now (t .entry)) (33 + i % 90 / 5) 0) (i % 5)) ⌝ }
+    ensures { λ _. ⌜ Bytes (now (z .entry)) ⌝ }
 {
     let mut p: usize = 0;
     while p < 32 {
         let a = 165 * p;
         let b = a + 165;
-        move_blocks(t, x, s, p, 0, &mut out[a..b]);
+        move_blocks(t, z, p, 0, &mut out[a..b]);
         let c = 90 * p;
         let d = c + 90;
-        move_blocks(t, x, s, p, 33, &mut next[c..d]);
+        move_blocks(t, z, p, 33, &mut next[c..d]);
         p += 1;
     }
 }
@@ -98,12 +123,11 @@ pub fn weave(exchanged: u64, lanes: &[u8; 5280], store: &mut [u8; 2880], out: &m
 {
     let masks = tables::MASKS;
     let sources = tables::SENDER;
-    let mut x = [0u8; 5280];
+    let mut sent = [0u8; 8160];
     let e = (exchanged % 16) as usize;
-    permute(&masks, e, lanes, &mut x);
-    let mut s = [0u8; 2880];
-    bits::copy(store, &mut s);
-    move_lanes(&sources, &x, &s, out, store);
+    permute(&masks, e, lanes, &mut sent[0..5280]);
+    bits::copy(store, &mut sent[5280..8160]);
+    move_lanes(&sources, &sent, out, store);
 }
 
 // The way back: a frame's lanes unwoven and permuted.
@@ -113,10 +137,11 @@ pub fn unweave(exchanged: u64, lanes: &[u8; 5280], store: &mut [u8; 2880], out: 
 {
     let masks = tables::MASKS;
     let sources = tables::RECEIVER;
+    let mut received = [0u8; 8160];
+    bits::copy(lanes, &mut received[0..5280]);
+    bits::copy(store, &mut received[5280..8160]);
     let mut y = [0u8; 5280];
-    let mut s = [0u8; 2880];
-    bits::copy(store, &mut s);
-    move_lanes(&sources, lanes, &s, &mut y, store);
+    move_lanes(&sources, &received, &mut y, store);
     let e = (exchanged % 16) as usize;
     permute(&masks, e, &y, out);
 }

@@ -2,7 +2,6 @@
 use mathlib.Core.Path.{refl}
 use Rattle.bch.specs.Tables.{roundOf}
 use borrow.Author.Tests.{lt-ltb, le-ltb}
-use borrow.Author.Needs.{needs}
 use Rattle.bch.proofs.round.Statement.{statement}
 use Rattle.bch.proofs.round.Tie as tie
 

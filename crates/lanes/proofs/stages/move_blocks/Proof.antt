@@ -1,48 +1,66 @@
 -- `lanes::stages::move_blocks` meets its contract: the bytes before block b are moved. Assumes nothing.
-use mathlib.Core.Path.{_≡_, refl}
-use mathlib.Core.List.{List}
-use Prim.Native.Nat.{ℕ, _+_, _*_, _-_, _/_, _%_}
-use lib.Dec.{lit<}
-use lib.ListN.{length, getD, length-set}
-use Rattle.bits.proofs.Filling.{Filling, filling-start, filling-done}
-use Rattle.lanes.specs.Blocks.{blockByte}
-use Rattle.lanes.proofs.Bytewise.{block-turn, block-at}
+use mathlib.Core.Path.{refl}
+use Prim.Native.Nat.{_*_, _-_}
 use native.Mathlib.Omega.{arith}
+use lib.ListN.{length, length-set}
+use Rattle.bits.proofs.Filling.{Filling, filling-start, filling-done}
+use Rattle.lanes.proofs.Bytewise.{movedByte, block-turn}
 use Rattle.lanes.proofs.stages.move_blocks.Statement.{statement}
 use Rattle.lanes.proofs.stages.move_blocks.Tie as tie
 
-abbrev byteOf : (t x s : List ℕ) → ℕ → ℕ → ℕ → ℕ
-byteOf t x s p first i = blockByte x s p (getD t (first + i / 5) 0) (i % 5)
-
 abbrev Inv-loop : tie.InvT-loop
-Inv-loop t x s p first out₀ n b₀ out b = (n ≡ length out₀ / 5) × Filling (byteOf t x s p first) (length out₀) out₀ out (5 * b)
+Inv-loop t z p first out₀ n b₀ out b = Filling (movedByte z t p first) (length out₀) out₀ out (5 * b)
 
 abbrev μ-loop : tie.MeasureT-loop
-μ-loop t x s p first out₀ n b₀ out b = n - b
+μ-loop t z p first out₀ n b₀ out b = n - b
 
 loop-holds : tie.Need-loop-holds Inv-loop μ-loop
-loop-holds c = (refl, filling-start _ refl)
+loop-holds c = filling-start _ refl
 
-add-k : tie.Need-add-k Inv-loop μ-loop
-add-k c = omega arith
+add-block-start : tie.Need-add-block-start Inv-loop μ-loop
+add-block-start c = omega arith
 
-mul-k : tie.Need-mul-k Inv-loop μ-loop
-mul-k c = omega arith
+mul-block-start : tie.Need-mul-block-start Inv-loop μ-loop
+mul-block-start c = omega arith
 
-element-copy-out-k : tie.Need-element-copy-out-k Inv-loop μ-loop
-element-copy-out-k c = omega arith
+element-copy-out-block-start : tie.Need-element-copy-out-block-start Inv-loop μ-loop
+element-copy-out-block-start c = omega arith
+
+block-start-requires : tie.Need-block-start-requires Inv-loop μ-loop
+block-start-requires c κs = let h = c .before .before .before .before .before .pre in (h .1 .1 .0, h .0 .below _)
+
+shared-slice-read-v0 : tie.Need-shared-slice-read-v0 Inv-loop μ-loop
+shared-slice-read-v0 c = omega arith
+
+add-v1 : tie.Need-add-v1 Inv-loop μ-loop
+add-v1 c = omega arith
+
+shared-slice-read-v1 : tie.Need-shared-slice-read-v1 Inv-loop μ-loop
+shared-slice-read-v1 c = omega arith
+
+add-v2 : tie.Need-add-v2 Inv-loop μ-loop
+add-v2 c = omega arith
+
+shared-slice-read-v2 : tie.Need-shared-slice-read-v2 Inv-loop μ-loop
+shared-slice-read-v2 c = omega arith
+
+add-v3 : tie.Need-add-v3 Inv-loop μ-loop
+add-v3 c = omega arith
+
+shared-slice-read-v3 : tie.Need-shared-slice-read-v3 Inv-loop μ-loop
+shared-slice-read-v3 c = omega arith
+
+add-v4 : tie.Need-add-v4 Inv-loop μ-loop
+add-v4 c = omega arith
+
+shared-slice-read-v4 : tie.Need-shared-slice-read-v4 Inv-loop μ-loop
+shared-slice-read-v4 c = omega arith
 
 mul-at : tie.Need-mul-at Inv-loop μ-loop
 mul-at c = omega arith
 
-block-byte-requires : tie.Need-block-byte-requires Inv-loop μ-loop
-block-byte-requires c κs = (c .before .before .before .before .before .before .pre .1 .0, (c .before .before .before .before .before .before .pre .1 .1 .0, c .before .before .before .before .before .before .pre .0 .below _, lit< tt))
-
 slice-write-out : tie.Need-slice-write-out Inv-loop μ-loop
 slice-write-out c = omega arith
-
-block-byte-requires-2 : tie.Need-block-byte-requires-2 Inv-loop μ-loop
-block-byte-requires-2 c κs = (c .before .before .before .before .before .before .before .pre .1 .0, (c .before .before .before .before .before .before .before .pre .1 .1 .0, c .before .before .before .before .before .before .before .pre .0 .below _, lit< tt))
 
 add-out : tie.Need-add-out Inv-loop μ-loop
 add-out c = omega arith
@@ -50,26 +68,17 @@ add-out c = omega arith
 slice-write-out-2 : tie.Need-slice-write-out-2 Inv-loop μ-loop
 slice-write-out-2 c = simp length-set (omega arith)
 
-block-byte-requires-3 : tie.Need-block-byte-requires-3 Inv-loop μ-loop
-block-byte-requires-3 c κs = (c .before .before .before .before .before .before .before .before .pre .1 .0, (c .before .before .before .before .before .before .before .before .pre .1 .1 .0, c .before .before .before .before .before .before .before .before .pre .0 .below _, lit< tt))
-
 add-out-2 : tie.Need-add-out-2 Inv-loop μ-loop
 add-out-2 c = omega arith
 
 slice-write-out-3 : tie.Need-slice-write-out-3 Inv-loop μ-loop
 slice-write-out-3 c = simp length-set (omega arith)
 
-block-byte-requires-4 : tie.Need-block-byte-requires-4 Inv-loop μ-loop
-block-byte-requires-4 c κs = (c .before .before .before .before .before .before .before .before .before .pre .1 .0, (c .before .before .before .before .before .before .before .before .before .pre .1 .1 .0, c .before .before .before .before .before .before .before .before .before .pre .0 .below _, lit< tt))
-
 add-out-3 : tie.Need-add-out-3 Inv-loop μ-loop
 add-out-3 c = omega arith
 
 slice-write-out-4 : tie.Need-slice-write-out-4 Inv-loop μ-loop
 slice-write-out-4 c = simp length-set (omega arith)
-
-block-byte-requires-5 : tie.Need-block-byte-requires-5 Inv-loop μ-loop
-block-byte-requires-5 c κs = (c .before .before .before .before .before .before .before .before .before .before .pre .1 .0, (c .before .before .before .before .before .before .before .before .before .before .pre .1 .1 .0, c .before .before .before .before .before .before .before .before .before .before .pre .0 .below _, lit< tt))
 
 add-out-4 : tie.Need-add-out-4 Inv-loop μ-loop
 add-out-4 c = omega arith
@@ -85,21 +94,15 @@ loop-less c = omega arith
 
 loop-again : tie.Need-loop-again Inv-loop μ-loop
 loop-again c =
-    let at = c .before .before .before .before .before .before .before .loop in
+    let at = c .before .before .before .before .before .before .before .before .loop in
     let a = c .before .before .before .before .before .before .before .before .before .before .before .args in
-    let i = at .b in
-    let g = byteOf (a .t .now) (a .x .now) (a .s .now) (a .p) (a .first) in (
-      at .inv .0,
-      block-turn g i _ _ _ _ _ (at .inv .1) (omega arith) (block-at (a .x .now) (a .s .now) (a .t .now) (a .p) (a .first) i 0 (5 * i) (lit< tt) (omega arith) (c .before .before .before .before .block-byte .ensures))
-          (block-at (a .x .now) (a .s .now) (a .t .now) (a .p) (a .first) i 1 (5 * i + 1) (lit< tt) refl (c .before .before .before .block-byte2 .ensures)) (block-at (a .x .now) (a .s .now) (a .t .now) (a .p) (a .first) i 2 (5 * i + 2) (lit< tt) refl (c .before .before .block-byte3 .ensures))
-          (block-at (a .x .now) (a .s .now) (a .t .now) (a .p) (a .first) i 3 (5 * i + 3) (lit< tt) refl (c .before .block-byte4 .ensures)) (block-at (a .x .now) (a .s .now) (a .t .now) (a .p) (a .first) i 4 (5 * i + 4) (lit< tt) refl (c .block-byte5 .ensures)),
-    )
+    block-turn (a .z .now) (a .t .now) (a .p) (a .first) (at .b) _ (c .before .before .before .before .before .block-start .ensures .0) (at .inv) (omega arith)
 
 same-length : tie.Need-same-length Inv-loop μ-loop
 same-length c = omega arith
 
 returns : tie.Need-returns Inv-loop μ-loop
-returns c = filling-done _ (c .before .loop .inv .1) (omega arith)
+returns c = filling-done _ (c .before .loop .inv) (omega arith)
 
 pub move-blocks-spec : {M : Type 1} → statement M
 move-blocks-spec =
@@ -108,22 +111,27 @@ move-blocks-spec =
     Inv-loop
     μ-loop
     loop-holds
-    add-k
-    mul-k
-    element-copy-out-k
+    add-block-start
+    mul-block-start
+    element-copy-out-block-start
+    block-start-requires
+    shared-slice-read-v0
+    add-v1
+    shared-slice-read-v1
+    add-v2
+    shared-slice-read-v2
+    add-v3
+    shared-slice-read-v3
+    add-v4
+    shared-slice-read-v4
     mul-at
-    block-byte-requires
     slice-write-out
-    block-byte-requires-2
     add-out
     slice-write-out-2
-    block-byte-requires-3
     add-out-2
     slice-write-out-3
-    block-byte-requires-4
     add-out-3
     slice-write-out-4
-    block-byte-requires-5
     add-out-4
     slice-write-out-5
     add-b

@@ -11,26 +11,26 @@ use native.Mathlib.Omega.{arith}
 use Rattle.lanes.proofs.stages.move_lanes.Statement.{statement}
 use Rattle.lanes.proofs.stages.move_lanes.Tie as tie
 
-abbrev outOf : (t x s : List ℕ) → ℕ → ℕ
-outOf t x s i = blockByte x s (i / 165) (getD t (i % 165 / 5) 0) (i % 5)
+abbrev outOf : (t z : List ℕ) → ℕ → ℕ
+outOf t z i = blockByte z (i / 165) (getD t (i % 165 / 5) 0) (i % 5)
 
-abbrev keptOf : (t x s : List ℕ) → ℕ → ℕ
-keptOf t x s i = blockByte x s (i / 90) (getD t (33 + i % 90 / 5) 0) (i % 5)
+abbrev keptOf : (t z : List ℕ) → ℕ → ℕ
+keptOf t z i = blockByte z (i / 90) (getD t (33 + i % 90 / 5) 0) (i % 5)
 
-first-is : (x s t : List ℕ) (p k : ℕ) → k < 165 → blockByte x s p (getD t (k / 5) 0) (k % 5) ≡ outOf t x s (165 * p + k)
-first-is x s t p k h =
-    ap (λ (e : ℕ). blockByte x s p (getD t e 0) (k % 5)) (sym (zero-add (k / 5))) ∙ lane-block x s t 165 0 p k five-165 h
-    ∙ ap (λ (e : ℕ). blockByte x s ((165 * p + k) / 165) (getD t e 0) ((165 * p + k) % 5)) (zero-add ((165 * p + k) % 165 / 5))
+first-is : (z t : List ℕ) (p k : ℕ) → k < 165 → blockByte z p (getD t (k / 5) 0) (k % 5) ≡ outOf t z (165 * p + k)
+first-is z t p k h =
+    ap (λ (e : ℕ). blockByte z p (getD t e 0) (k % 5)) (sym (zero-add (k / 5))) ∙ lane-block z t 165 0 p k five-165 h
+    ∙ ap (λ (e : ℕ). blockByte z ((165 * p + k) / 165) (getD t e 0) ((165 * p + k) % 5)) (zero-add ((165 * p + k) % 165 / 5))
 
 abbrev Inv-loop : tie.InvT-loop
-Inv-loop t x s out₀ next₀ p₀ out next p =
-    Filling (outOf t x s) 5280 out₀ out (165 * p) × Filling (keptOf t x s) 2880 next₀ next (90 * p)
+Inv-loop t z out₀ next₀ p₀ out next p =
+    Filling (outOf t z) 5280 out₀ out (165 * p) × Filling (keptOf t z) 2880 next₀ next (90 * p)
 
 abbrev μ-loop : tie.MeasureT-loop
-μ-loop t x s out₀ next₀ p₀ out next p = 32 - p
+μ-loop t z out₀ next₀ p₀ out next p = 32 - p
 
 loop-holds : tie.Need-loop-holds Inv-loop μ-loop
-loop-holds c = let h = c .before .before .before .before .pre in (filling-start _ (h .1 .2), filling-start _ (h .1 .3))
+loop-holds c = let h = c .before .before .before .pre in (filling-start _ (h .1 .1), filling-start _ (h .1 .2))
 
 mul-a : tie.Need-mul-a Inv-loop μ-loop
 mul-a c = omega arith
@@ -49,8 +49,7 @@ part-move-blocks-end c = omega arith
 
 move-blocks-requires : tie.Need-move-blocks-requires Inv-loop μ-loop
 move-blocks-requires c κs =
-    let h = c .before .before .before .before .before .before .before .pre in
-    (h .0, ((h .1 .0, h .1 .1), simp (length-take, length-drop) (omega arith)))
+    let h = c .before .before .before .before .before .before .pre in (h .0, (h .1 .0, simp (length-take, length-drop) (omega arith)))
 
 mul-c : tie.Need-mul-c Inv-loop μ-loop
 mul-c c = omega arith
@@ -69,8 +68,8 @@ part-move-blocks-end-2 c = omega arith
 
 move-blocks-requires-2 : tie.Need-move-blocks-requires-2 Inv-loop μ-loop
 move-blocks-requires-2 c κs =
-    let h = c .before .before .before .before .before .before .before .before .before .before .before .pre in
-    (h .0, ((h .1 .0, h .1 .1), simp (length-take, length-drop) (omega arith)))
+    let h = c .before .before .before .before .before .before .before .before .before .before .pre in
+    (h .0, (h .1 .0, simp (length-take, length-drop) (omega arith)))
 
 add-p : tie.Need-add-p Inv-loop μ-loop
 add-p c = omega arith
@@ -81,13 +80,12 @@ loop-less c = omega arith
 loop-again : tie.Need-loop-again Inv-loop μ-loop
 loop-again c =
     let at = c .before .before .before .before .before .before .before .before .before .loop in
-    let a = c .before .before .before .before .before .before .before .before .before .before .before .before .before .before .args in
-    let x = a .x .now in
-    let s = a .s .now in
+    let a = c .before .before .before .before .before .before .before .before .before .before .before .before .before .args in
+    let z = a .z .now in
     let t = a .t .now in (
-      lane-turn (outOf t x s) 165 (at .p) _ _ _ (at .inv .0) refl (omega arith) (c .before .before .before .before .before .before .move-blocks .ensures)
-          (λ k h. ap (λ (e : ℕ). blockByte x s (at .p) (getD t e 0) (k % 5)) (zero-add (k / 5)) ∙ first-is x s t (at .p) k h),
-      lane-turn (keptOf t x s) 90 (at .p) _ _ _ (at .inv .1) refl (omega arith) (c .before .before .move-blocks2 .ensures) (λ k h. lane-block x s t 90 33 (at .p) k five-90 h),
+      lane-turn (outOf t z) 165 (at .p) _ _ _ (at .inv .0) refl (omega arith) (c .before .before .before .before .before .before .move-blocks .ensures)
+          (λ k h. ap (λ (e : ℕ). blockByte z (at .p) (getD t e 0) (k % 5)) (zero-add (k / 5)) ∙ first-is z t (at .p) k h),
+      lane-turn (keptOf t z) 90 (at .p) _ _ _ (at .inv .1) refl (omega arith) (c .before .before .move-blocks2 .ensures) (λ k h. lane-block z t 90 33 (at .p) k five-90 h),
     )
 
 same-length : tie.Need-same-length Inv-loop μ-loop
@@ -99,10 +97,7 @@ same-length-2 c = omega arith
 returns : tie.Need-returns Inv-loop μ-loop
 returns c = (
   filling-done _ (c .before .loop .inv .0) (omega arith),
-  (
-    filling-done _ (c .before .loop .inv .1) (omega arith),
-    (record { byte = λ m. omega (arith, c .before .before .before .before .before .shared-slice-known .given m) }, record { byte = λ m. omega (arith, c .before .before .before .before .shared-slice-known2 .given m) }),
-  ),
+  (filling-done _ (c .before .loop .inv .1) (omega arith), record { byte = λ m. omega (arith, c .before .before .before .before .shared-slice-known .given m) }),
 )
 
 pub move-lanes-spec : {M : Type 1} → statement M

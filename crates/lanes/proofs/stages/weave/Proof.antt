@@ -1,50 +1,66 @@
 -- `lanes::stages::weave` meets its contract: `weave-law`. Assumes nothing.
-use mathlib.Core.Path.{_≡_, _∙_}
-use lib.ListN.{length}
-use Rattle.bits.proofs.Filling.{copied-all}
+use mathlib.Core.Path.{sym}
+use native.Mathlib.Omega.{arith}
+use lib.ListN.{length-append, length-take, length-drop}
 use Rattle.lanes.proofs.Entries.{sends-below, is-masks}
-use Rattle.lanes.proofs.Frames.{weave-law}
+use Rattle.lanes.proofs.Frames.{weave-law, beside}
 use borrow.Author.Needs.{needs}
 use Rattle.lanes.proofs.stages.weave.Statement.{statement}
 use Rattle.lanes.proofs.stages.weave.Tie as tie
 
-slice-aggregate-permute : tie.Need-slice-aggregate-permute
-slice-aggregate-permute c = search needs
+sub-permute : tie.Need-sub-permute
+sub-permute c = search needs
+
+part-sent-start : tie.Need-part-sent-start
+part-sent-start c = search needs
+
+part-sent-end : tie.Need-part-sent-end
+part-sent-end c = search needs
 
 permute-requires : tie.Need-permute-requires
 permute-requires c κs = (is-masks, search needs)
 
-slice-aggregate-copy : tie.Need-slice-aggregate-copy
-slice-aggregate-copy c = search needs
+sub-copy : tie.Need-sub-copy
+sub-copy c = search needs
+
+part-sent-start-2 : tie.Need-part-sent-start-2
+part-sent-start-2 c = search needs
+
+part-sent-end-2 : tie.Need-part-sent-end-2
+part-sent-end-2 c = simp length-append (omega arith)
 
 copy-requires : tie.Need-copy-requires
 copy-requires c κs = search needs
 
 slice-aggregate-move-lanes : tie.Need-slice-aggregate-move-lanes
-slice-aggregate-move-lanes c = search needs
-
-slice-aggregate-move-lanes-2 : tie.Need-slice-aggregate-move-lanes-2
-slice-aggregate-move-lanes-2 c = search needs
+slice-aggregate-move-lanes c = simp (length-append, length-take, length-drop) (omega (arith, simp (length-append, length-take, length-drop) at (c .before .before .sent4 .given)))
 
 move-lanes-requires : tie.Need-move-lanes-requires
-move-lanes-requires c κs = (sends-below, search needs)
+move-lanes-requires c κs = (sends-below, (sym (slice-aggregate-move-lanes (c .before .before)), search needs, search needs))
 
 returns : tie.Need-returns
 returns c =
     let m = c .move-lanes .ensures in
-    let a = c .before .before .before .before .before .before .before .before .before .before .before .before .before .before .before .before .args in
-    let long : length (a .store .now) ≡ 2880 = c .before .before .before .before .before .before .before .before .before .copy-arg2 .given .0 in
-    weave-law (a .exchanged) (a .lanes .now) (a .store .now) (c .before .before .before .before .before .before .before .before .before .before .before .before .permute .ensures) (c .before .before .before .before .before .before .before .copy .ensures ∙ copied-all _ _ long) (m .1 .1 .0) (m .1 .1 .1) (m .0) (m .1 .0)
+    let copy = c .before .before .before .before .before .before in
+    let put = copy .before .before .before .before in
+    let a = put .before .before .before .before .before .args in
+    let s = a .store .now in
+    let x = put .before .permute .last .1 .1 .1 .0 in
+    weave-law (a .exchanged) (a .lanes .now) s (put .before .permute .ensures) (beside x s (put .sent2 .given) (copy .before .before .copy-arg2 .given .0) (copy .copy .ensures)) (put .sent2 .given)
+    (m .1 .1) (m .0) (m .1 .0)
 
 pub weave-spec : {M : Type 1} → statement M
 weave-spec =
     tie.close
     (tie.spec
-    slice-aggregate-permute
+    sub-permute
+    part-sent-start
+    part-sent-end
     permute-requires
-    slice-aggregate-copy
+    sub-copy
+    part-sent-start-2
+    part-sent-end-2
     copy-requires
     slice-aggregate-move-lanes
-    slice-aggregate-move-lanes-2
     move-lanes-requires
     returns)
