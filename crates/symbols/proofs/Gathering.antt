@@ -1,29 +1,28 @@
 -- From symbols to words: four lanes' numbers gathered pair by pair, eight symbols at a time, and the words of a frame with their bits at their places.
 -- Assumes nothing.
 use mathlib.Core.Path.{_≡_, refl, sym, ap, ap₂, _∙_, subst}
+use mathlib.Core.Logic.{_≢_}
 use mathlib.Core.Bool.{cond}
 use mathlib.Core.List.{List}
 use Prim.Native.Nat.{ℕ, zero, suc, _+_, _-_, _*_, _/_, _%_, _^_, _<_, _≤_, suc-le-suc, zero-le}
-use native.Mathlib.Nat.{add-assoc, lt-of-lt-of-le, pow-le-pow-right, mul-add-mod-self-right, add-mul-mod-self-right, mod-eq-of-lt}
-use native.Mathlib.Decide.{decLt}
+use native.Mathlib.Nat.{add-assoc, lt-of-lt-of-le, pow-le-pow-right, mul-add-mod-self-right, add-mul-mod-self-right, mod-eq-of-lt, not-suc-le-zero, div-add-mod'}
+use native.Mathlib.Decide.{decLt, ℕ-discrete}
 use native.Mathlib.Numerals.{add-one}
 use native.Mathlib.Omega.{arith}
 use lib.Dec.{eqb, ltb}
-use lib.ListN.{getD, set, drop}
-use lib.Seq.{getD-drop, drop-drop}
+use lib.ListN.{length, getD, set, drop, length-set}
+use lib.Seq.{getD-drop, drop-drop, getD-set-same, getD-set-other}
 use borrow.Author.Tests.{lt-ltb, le-ltb}
-use Rattle.bits.specs.Bits.{value, number, bitOf, bitAt}
-use Rattle.bits.specs.Words.{halfOf, rowOf}
+use Rattle.bits.specs.Bits.{value, number, bitOf, bitAt, tabulate}
+use Rattle.bits.specs.Words.{wordOf, wordAt, halfOf, rowOf}
 use Rattle.bits.proofs.Value.{value-more, value-cong, value-lt, value-append, value-top, value-low, bit-lt, bit-number}
 use Rattle.bits.proofs.Fields.{bitAt-lt, bitAt-byte}
-use Rattle.bits.proofs.Filling.{Filling}
-use Rattle.bits.proofs.Tabulate.{tabulate-cong}
-use Rattle.bits.proofs.Words.{row-at, row-turn}
+use Rattle.bits.proofs.Tabulate.{getD-tabulate, tabulate-cong, is-tabulate}
 use Rattle.symbols.specs.declared.Quad.{Quad}
 use Rattle.symbols.specs.Mapping.{place, payloadAt, symbolOf, tributaryOf, bitIn}
 use Rattle.symbols.specs.Frame.{placedBit, arrived, wordsOf}
 use Rattle.symbols.proofs.Symbols.{tributary-mod}
-use Rattle.symbols.specs.Tables.{back, turned, turnedRow, tributaryIn, pairOf, spreadOf, IsSpread, gathered, quadOf, fieldsOf, Room, joined, masked, placedWord, placedRow}
+use Rattle.symbols.specs.Tables.{back, turned, turnedRow, tributaryIn, pairOf, spreadOf, IsSpread, gathered, quadOf, fieldsOf, Room, joined, quadPut, numberAt, placedWord}
 
 -- ---- a symbol's pairs, by the table
 
@@ -244,38 +243,112 @@ module _ (f : List ℕ) (g r : ℕ) (h : g < 96) (b : r < 4) where
       lower-gathered ∙ sym (value-low 2 62 64 bitsOf (λ q _. bits-lt q))
       ∙ ap (λ (k : ℕ). placedWord f k % 2 ^ 64) (sym e)
 
--- a turn: the eight numbers of four words are stored
-module _ (f : List ℕ) {s₀ : List ℕ} where
-  store : {s : List ℕ} (i o u x y : ℕ) → i < 384 → o ≡ 2 * i → u ≡ 2 * i + 1 → x ≡ placedWord f i / 2 ^ 64 → y ≡ placedWord f i % 2 ^ 64
-      → Filling (halfOf (placedWord f)) 768 s₀ s (2 * i) → Filling (halfOf (placedWord f)) 768 s₀ (set (set s o x) u y) (2 * (i + 1))
-  store {s} i o u x y h p q ex ey F =
-      subst (λ (k : ℕ). Filling (halfOf (placedWord f)) 768 s₀ (set (set s k x) u y) (2 * (i + 1))) (sym p)
-      (subst (λ (k : ℕ). Filling (halfOf (placedWord f)) 768 s₀ (set (set s (2 * i) x) k y) (2 * (i + 1))) (sym q)
-      (row-turn (placedWord f) i F x y (omega arith) ex ey))
+-- ---- the loop that stores the numbers of four lanes in 32 symbols
 
-  pub turn-four : {s : List ℕ} (g : ℕ) (p q : Quad) → g < 96 → p ≡ masked (quadOf 32 (g % 8 * 63 + 3) (drop (g * 64) f)) → q ≡ quadOf 32 (g % 8 * 63 + 31) (drop (g * 64 + 32) f)
-      → Filling (halfOf (placedWord f)) 768 s₀ s (g * 8)
-      → Filling (halfOf (placedWord f)) 768 s₀
-      (set (set (set (set (set (set (set (set s (g * 8) (p .a)) (g * 8 + 1) (q .a)) (g * 8 + 2) (p .b)) (g * 8 + 3) (q .b)) (g * 8 + 4) (p .c)) (g * 8 + 5) (q .c)) (g * 8 + 6) (p .d)) (g * 8 + 7) (q .d))
-      ((g + 1) * 8)
-  unfolding masked quadOf
-  turn-four {s} g p q h ep eq F =
-      let z : g * 8 ≡ 2 * (4 * g) = omega arith in
-      let y : 2 * (4 * g + 1 + 1 + 1 + 1) ≡ (g + 1) * 8 = omega arith in
-      subst (Filling (halfOf (placedWord f)) 768 s₀ _) y
-      (store (4 * g + 1 + 1 + 1) (g * 8 + 6) (g * 8 + 7) (p .d) (q .d) (omega arith) (omega arith) (omega arith)
-      (ap (λ (v : Quad). v .d) ep ∙ placed-upper f g 3 h (omega arith) (4 * g + 1 + 1 + 1) (omega arith))
-      (ap (λ (v : Quad). v .d) eq ∙ placed-lower f g 3 h (omega arith) (4 * g + 1 + 1 + 1) (omega arith))
-      (store (4 * g + 1 + 1) (g * 8 + 4) (g * 8 + 5) (p .c) (q .c) (omega arith) (omega arith) (omega arith)
-      (ap (λ (v : Quad). v .c) ep ∙ placed-upper f g 2 h (omega arith) (4 * g + 1 + 1) (omega arith))
-      (ap (λ (v : Quad). v .c) eq ∙ placed-lower f g 2 h (omega arith) (4 * g + 1 + 1) (omega arith))
-      (store (4 * g + 1) (g * 8 + 2) (g * 8 + 3) (p .b) (q .b) (omega arith) (omega arith) (omega arith)
-      (ap (λ (v : Quad). v .b) ep ∙ placed-upper f g 1 h (omega arith) (4 * g + 1) (omega arith))
-      (ap (λ (v : Quad). v .b) eq ∙ placed-lower f g 1 h (omega arith) (4 * g + 1) (omega arith))
-      (store (4 * g) (g * 8) (g * 8 + 1) (p .a) (q .a) (omega arith) (omega arith) (omega arith)
-      (ap (λ (v : Quad). v .a) ep ∙ placed-upper f g 0 h (omega arith) (4 * g) (omega arith))
-      (ap (λ (v : Quad). v .a) eq ∙ placed-lower f g 0 h (omega arith) (4 * g) (omega arith))
-      (subst (Filling (halfOf (placedWord f)) 768 s₀ s) z F)))))
+-- how many numbers are stored before number j of the row
+unfoldable pub order : ℕ → ℕ
+order j = j / 8 * 8 + j % 2 * 4 + j % 8 / 2
+
+-- no two numbers have the same turn
+order-same : (i j : ℕ) → order i ≡ order j → i ≡ j
+unfolding order
+order-same i j e =
+    parts i ∙ same _ _ _ _ _ _ (omega arith) (omega arith) (omega arith) (omega arith) e ∙ sym (parts j)
+  where
+    parts : (j : ℕ) → j ≡ j / 8 * 8 + j % 8 / 2 * 2 + j % 2
+    parts j = omega arith
+
+    same : (a b c a′ b′ c′ : ℕ) → b < 4 → c < 2 → b′ < 4 → c′ < 2 → a * 8 + c * 4 + b ≡ a′ * 8 + c′ * 4 + b′ → a * 8 + b * 2 + c ≡ a′ * 8 + b′ * 2 + c′
+    same a b c a′ b′ c′ hb hc hb′ hc′ e = omega arith
+
+order-lt : (j : ℕ) → j < 768 → order j < 768
+unfolding order
+order-lt j h = omega arith
+
+-- number r of half h of a frame
+module _ (f : List ℕ) (h r : ℕ) (b : r < 4) where
+  group-of : h / 2 ≡ (h / 2 * 8 + h % 2 + 2 * r) / 8
+  group-of = omega arith
+
+  part-of : h % 2 ≡ (h / 2 * 8 + h % 2 + 2 * r) % 2
+  part-of = omega arith
+
+  lane-of : r ≡ (h / 2 * 8 + h % 2 + 2 * r) % 8 / 2
+  lane-of = omega arith
+
+  number-is : gathered 32 (h / 2 % 8 * 63 + 3 + h % 2 * 28) (drop (h * 32) f) r ≡ numberAt f (h / 2 * 8 + h % 2 + 2 * r)
+  unfolding numberAt
+  number-is =
+      let d : h * 32 ≡ h / 2 * 64 + h % 2 * 32 = omega arith in
+      ap (λ (n : ℕ). gathered 32 (h / 2 % 8 * 63 + 3 + h % 2 * 28) (drop n f) r) d
+      ∙ λ k. gathered 32 (group-of k % 8 * 63 + 3 + part-of k * 28) (drop (group-of k * 64 + part-of k * 32) f) (lane-of k)
+
+  order-is : order (h / 2 * 8 + h % 2 + 2 * r) ≡ 4 * h + r
+  unfolding order
+  order-is = let e : h / 2 * 8 + h % 2 * 4 + r ≡ 4 * h + r = omega arith in sym (λ k. group-of k * 8 + part-of k * 4 + lane-of k) ∙ e
+
+-- the first m numbers that are stored are there
+pub record Gathering (f : List ℕ) (m : ℕ) (s : List ℕ) : Type 0 where
+  pub long : length s ≡ 768
+  pub done : (j : ℕ) → j < 768 → order j < m → getD s j 0 ≡ numberAt f j
+
+module _ {f : List ℕ} where
+  pub gathering-start : {s : List ℕ} → length s ≡ 768 → Gathering f 0 s
+  gathering-start e = record { long = e; done = λ j _ l. absurd (not-suc-le-zero l) }
+
+  -- the next number is stored
+  put : {s : List ℕ} {m : ℕ} (o x : ℕ) → Gathering f m s → o < 768 → order o ≡ m → x ≡ numberAt f o → Gathering f (m + 1) (set s o x)
+  put {s} {m} o x G h e v = record { long = length-set s o x ∙ G .long; done = λ j b l. at j (ℕ-discrete j o) b l }
+    where
+      at : (j : ℕ) → Dec (j ≡ o) → j < 768 → order j < m + 1 → getD (set s o x) j 0 ≡ numberAt f j
+      at j (yes q) b l = subst (λ (k : ℕ). getD (set s o x) k 0 ≡ numberAt f k) (sym q) (getD-set-same s o x 0 (omega (arith, G .long)) ∙ v)
+      at j (no ne) b l = let d : order j ≢ m = λ q. ne (order-same j o (q ∙ sym e)) in getD-set-other s o j x 0 ne ∙ G .done j b (omega arith)
+
+  -- a turn stores four
+  pub gathering-turn : {s s′ : List ℕ} {h : ℕ} {q : Quad} → Gathering f (4 * h) s → h < 192
+      → q ≡ quadOf 32 (h / 2 % 8 * 63 + 3 + h % 2 * 28) (drop (h * 32) f) → s′ ≡ quadPut q (h / 2 * 8 + h % 2) s → Gathering f (4 * (h + 1)) s′
+  unfolding quadOf quadPut
+  gathering-turn {s} {s′} {h} {q} G b e p =
+      let o = h / 2 * 8 + h % 2 in
+      let z : o + 2 * 0 ≡ o = omega arith in
+      let y : 4 * h + 0 ≡ 4 * h = omega arith in
+      let m : 4 * h + 1 + 1 + 1 + 1 ≡ 4 * (h + 1) = omega arith in
+      subst (Gathering f (4 * (h + 1))) (sym p)
+      (subst (λ (n : ℕ). Gathering f n (quadPut q o s)) m
+      (put (o + 6) (q .d)
+      (put (o + 4) (q .c)
+      (put (o + 2) (q .b)
+      (put o (q .a) G (omega arith) (ap order (sym z) ∙ order-is f h 0 (omega arith) ∙ y) (ap (λ (v : Quad). v .a) e ∙ number-is f h 0 (omega arith) ∙ ap (numberAt f) z))
+      (omega arith) (order-is f h 1 (omega arith)) (ap (λ (v : Quad). v .b) e ∙ number-is f h 1 (omega arith)))
+      (omega arith) (omega (arith, order-is f h 2 (omega arith))) (ap (λ (v : Quad). v .c) e ∙ number-is f h 2 (omega arith)))
+      (omega arith) (omega (arith, order-is f h 3 (omega arith))) (ap (λ (v : Quad). v .d) e ∙ number-is f h 3 (omega arith))))
+
+  pub gathering-done : {s : List ℕ} {h : ℕ} → Gathering f (4 * h) s → 192 ≤ h → s ≡ tabulate 768 (numberAt f)
+  gathering-done {s} G b = is-tabulate 0 s 768 (numberAt f) (G .long) (λ j l. G .done j l (omega (arith, order-lt j l)))
+
+-- the row has the words of the frame, the pilot's pair being cut off
+placed-word : (f : List ℕ) (i : ℕ) → i < 384 → wordAt (tabulate 768 (numberAt f)) i ≡ placedWord f i
+unfolding wordAt wordOf numberAt
+placed-word f i h =
+    let g = i / 4 in
+    let r = i % 4 in
+    let e : i ≡ 4 * g + r = omega arith in
+    let a : 2 * i / 8 ≡ g = omega arith in
+    let z : 2 * i % 2 ≡ 0 = omega arith in
+    let l : g % 8 * 63 + 3 + 0 * 28 ≡ g % 8 * 63 + 3 = omega arith in
+    let d : 2 * i / 8 * 64 + 2 * i % 2 * 32 ≡ g * 64 = omega arith in
+    let u : 2 * i % 8 / 2 ≡ r = omega arith in
+    let a′ : (2 * i + 1) / 8 ≡ g = omega arith in
+    let z′ : (2 * i + 1) % 2 ≡ 1 = omega arith in
+    let l′ : g % 8 * 63 + 3 + 1 * 28 ≡ g % 8 * 63 + 31 = omega arith in
+    let d′ : (2 * i + 1) / 8 * 64 + (2 * i + 1) % 2 * 32 ≡ g * 64 + 32 = omega arith in
+    let u′ : (2 * i + 1) % 8 / 2 ≡ r = omega arith in
+    ap₂ (λ (x y : ℕ). x * 2 ^ 64 + y)
+    (ap (λ (v : ℕ). v % 2 ^ 62) (getD-tabulate 768 (numberAt f) (2 * i) 0 (omega arith) ∙ λ k. gathered 32 (((λ n. a n % 8 * 63 + 3 + z n * 28) ∙ l) k) (drop (d k) f) (u k))
+    ∙ placed-upper f g r (omega arith) (omega arith) i e)
+    (getD-tabulate 768 (numberAt f) (2 * i + 1) 0 (omega arith) ∙ (λ k. gathered 32 (((λ n. a′ n % 8 * 63 + 3 + z′ n * 28) ∙ l′) k) (drop (d′ k) f) (u′ k))
+    ∙ placed-lower f g r (omega arith) (omega arith) i e)
+    ∙ div-add-mod' (placedWord f i) (2 ^ 64)
 
 -- ---- the words turned back
 
@@ -302,12 +375,12 @@ back-lt n r h = go (decLt r 110)
     go (yes l) = rw (lt-ltb r 110 l) (omega arith)
     go (no l) = rw (le-ltb r 110 (omega arith)) h
 
-pub words-is : (f p : List ℕ) → p ≡ placedRow f → turnedRow 90 p ≡ wordsOf f
-unfolding turnedRow placedRow wordsOf arrived turned placedBit
+pub words-is : (f p : List ℕ) → p ≡ tabulate 768 (numberAt f) → turnedRow 90 p ≡ wordsOf f
+unfolding turnedRow wordsOf arrived turned placedBit
 words-is f p e =
     ap (turnedRow 90) e
     ∙ row-cong 384 _ _ (λ i h.
-    ap (turned (90 * (i % 32) % 110)) (row-at 384 _ i h (value-lt 2 126 _ (λ q _. bitAt-lt f _)))
+    ap (turned (90 * (i % 32) % 110)) (placed-word f i h)
     ∙ value-cong 2 126 _ _ (λ r l.
     bit-number 126 (placedBit f (i / 32) (i % 32)) (λ q _. bitAt-lt f _) (back (90 * (i % 32) % 110) r) (back-lt (90 * (i % 32) % 110) r l)
     ∙ ap (placedBit f (i / 32) (i % 32)) (back-place (i % 32) r)))

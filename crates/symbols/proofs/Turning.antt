@@ -1,20 +1,27 @@
--- A word's information turned round its 110 places: in two halves of 55 bits, of which each becomes the end of one and the beginning of the other.
+-- A word's information turned round its 110 places: in two halves of 55 bits, of which each becomes the end of one and the beginning of the other; and
+-- the loops that turn a row's words lane by lane.
 -- Assumes nothing.
-use mathlib.Core.Path.{_≡_, sym, ap, ap₂, _∙_}
+use mathlib.Core.Path.{_≡_, refl, sym, ap, ap₂, _∙_, subst}
+use mathlib.Core.Logic.{_≢_}
 use mathlib.Core.Bool.{cond}
+use mathlib.Core.List.{List}
 use Prim.Native.Nat.{ℕ, _+_, _-_, _*_, _/_, _%_, _^_, _<_, _≤_}
-use native.Mathlib.Nat.{one-mul, mod-eq-of-lt, mul-le-mul-left, le-of-lt}
-use native.Mathlib.Decide.{decLt}
+use native.Mathlib.Nat.{one-mul, mod-eq-of-lt, mul-le-mul-left, le-of-lt, not-suc-le-zero}
+use native.Mathlib.Decide.{decLt, ℕ-discrete}
 use native.Mathlib.Omega.{arith}
 use lib.Arith.{digits-lt, digits-div, digits-mod}
 use lib.Pow.{pow-lt, pow-pos}
 use lib.Bits.{bitAnd, bitOr}
-use lib.Dec.{ltb}
+use lib.Dec.{eqb, ltb}
+use lib.ListN.{length, getD, set, length-set}
+use lib.Seq.{getD-set-same, getD-set-other}
 use borrow.Author.Tests.{lt-ltb, le-ltb}
 use Rattle.bits.specs.Bits.{number, bitOf}
+use Rattle.bits.specs.Words.{wordAt, halfOf}
 use Rattle.bits.proofs.Value.{value-cong, value-lt, value-append, value-top, value-low, bit-lt, number-bits}
 use Rattle.bits.proofs.Joins.{cross-lt, cross-bits}
-use Rattle.symbols.specs.Tables.{back, turned, crossed, turnedFirst}
+use Rattle.bits.proofs.Tabulate.{is-tabulate}
+use Rattle.symbols.specs.Tables.{back, turned, crossed, turnedFirst, Holds, LaneTurned, turnedRow}
 
 pow-64 : (n : ℕ) → n < 55 → 2 ^ n < 2 ^ 64
 pow-64 n h = let l : n < 64 = omega arith in pow-lt l
@@ -170,3 +177,75 @@ turn-law n hi lo a b h hh hl p q =
 -- the places to turn by, as a product that fits
 pub places-fit : (m p : ℕ) → m < 110 → p < 32 → m * p < 2 ^ 64
 places-fit m p h l = let le : m * p ≤ m * 32 = mul-le-mul-left m (le-of-lt l) in omega arith
+
+-- ---- a row's words turned lane by lane
+
+-- a turn of the loop over lane p, which stores word 32 k + p
+module _ {n p : ℕ} {s o₀ : List ℕ} where
+  pub lane-start : length o₀ ≡ 768 → LaneTurned n p s o₀ 0 o₀
+  lane-start e = record { long = e; here = λ i _ _ l. absurd (not-suc-le-zero l); there = λ j _. refl }
+
+  pub lane-turn : {o : List ℕ} {k i x y : ℕ} → LaneTurned n p s o₀ k o → k < 12 → p < 32 → i ≡ 32 * k + p
+      → x ≡ turned n (wordAt s i) / 2 ^ 64 → y ≡ turned n (wordAt s i) % 2 ^ 64 → LaneTurned n p s o₀ (k + 1) (set (set o (2 * i) x) (2 * i + 1) y)
+  lane-turn {o} {k} {i} {x} {y} L hk hp e ex ey =
+      record {
+        long = length-set (set o (2 * i) x) (2 * i + 1) y ∙ length-set o (2 * i) x ∙ L .long;
+        here = λ m b c d. at m (ℕ-discrete m i) b c d;
+        there = λ j ne. other j (λ q. ne (omega arith)) (λ q. ne (omega arith)) ∙ L .there j ne;
+      }
+    where
+      other : (j : ℕ) → j ≢ 2 * i → j ≢ 2 * i + 1 → getD (set (set o (2 * i) x) (2 * i + 1) y) j 0 ≡ getD o j 0
+      other j a b = getD-set-other (set o (2 * i) x) (2 * i + 1) j y 0 b ∙ getD-set-other o (2 * i) j x 0 a
+
+      upper : getD (set (set o (2 * i) x) (2 * i + 1) y) (2 * i) 0 ≡ x
+      upper = getD-set-other (set o (2 * i) x) (2 * i + 1) (2 * i) y 0 (omega arith) ∙ getD-set-same o (2 * i) x 0 (omega (arith, L .long))
+
+      lower : getD (set (set o (2 * i) x) (2 * i + 1) y) (2 * i + 1) 0 ≡ y
+      lower = getD-set-same (set o (2 * i) x) (2 * i + 1) y 0 (omega (arith, L .long, length-set o (2 * i) x))
+
+      at : (m : ℕ) → Dec (m ≡ i) → m < 384 → m % 32 ≡ p → m / 32 < k + 1 → Holds (set (set o (2 * i) x) (2 * i + 1) y) m (turned n (wordAt s m))
+      at m (yes q) b c d = subst (λ (m : ℕ). Holds (set (set o (2 * i) x) (2 * i + 1) y) m (turned n (wordAt s m))) (sym q) (upper ∙ ex, lower ∙ ey)
+      at m (no ne) b c d =
+          let old = L .here m b c (omega arith) in
+          (other (2 * m) (omega arith) (omega arith) ∙ old .0, other (2 * m + 1) (omega arith) (omega arith) ∙ old .1)
+
+  pub lane-done : {o : List ℕ} {k : ℕ} → LaneTurned n p s o₀ k o → 12 ≤ k → LaneTurned n p s o₀ 12 o
+  lane-done L h = record { long = L .long; here = λ i b c d. L .here i b c (omega arith); there = L .there }
+
+-- the amount as a literal
+pub lane-by : {n n′ p k : ℕ} {s o₀ o : List ℕ} → n ≡ n′ → LaneTurned n′ p s o₀ k o → LaneTurned n p s o₀ k o
+lane-by {p = p} {k = k} {s = s} {o₀ = o₀} {o = o} e L = subst (λ (n : ℕ). LaneTurned n p s o₀ k o) (sym e) L
+
+-- the row o has the words of the lanes below p of the row s, each turned by m times its lane's number
+pub record LanesTurned (m : ℕ) (s : List ℕ) (p : ℕ) (o : List ℕ) : Type 0 where
+  pub long : length o ≡ 768
+  pub below : (i : ℕ) → i < 384 → i % 32 < p → Holds o i (turned (m * (i % 32) % 110) (wordAt s i))
+
+module _ {m : ℕ} {s : List ℕ} where
+  pub lanes-start : {o : List ℕ} → length o ≡ 768 → LanesTurned m s 0 o
+  lanes-start e = record { long = e; below = λ i _ l. absurd (not-suc-le-zero l) }
+
+  pub lanes-turn : {o₀ o : List ℕ} {p : ℕ} → LanesTurned m s p o₀ → LaneTurned (m * p % 110) p s o₀ 12 o → LanesTurned m s (p + 1) o
+  lanes-turn {o₀} {o} {p} F L = record { long = L .long; below = λ i b c. at i (ℕ-discrete (i % 32) p) b c }
+    where
+      at : (i : ℕ) → Dec (i % 32 ≡ p) → i < 384 → i % 32 < p + 1 → Holds o i (turned (m * (i % 32) % 110) (wordAt s i))
+      at i (yes q) b c = subst (λ (l : ℕ). Holds o i (turned (m * l % 110) (wordAt s i))) (sym q) (L .here i b q (omega arith))
+      at i (no ne) b c =
+          let old = F .below i b (omega arith) in
+          (L .there (2 * i) (omega arith) ∙ old .0, L .there (2 * i + 1) (omega arith) ∙ old .1)
+
+  pub lanes-done : {o : List ℕ} {p : ℕ} → LanesTurned m s p o → 32 ≤ p → o ≡ turnedRow m s
+  unfolding turnedRow halfOf
+  lanes-done {o} {p} F h = is-tabulate 0 o 768 _ (F .long) (λ j b. at j (ℕ-discrete (j % 2) 0) b)
+    where
+      word : ℕ → ℕ
+      word i = turned (m * (i % 32) % 110) (wordAt s i)
+
+      at : (j : ℕ) → Dec (j % 2 ≡ 0) → j < 768 → getD o j 0 ≡ cond (eqb (j % 2) 0) (word (j / 2) / 2 ^ 64) (word (j / 2) % 2 ^ 64)
+      at j (yes q) b =
+          let e : j ≡ 2 * (j / 2) = omega arith in
+          rw q (ap (λ (k : ℕ). getD o k 0) e ∙ F .below (j / 2) (omega arith) (omega arith) .0)
+      at j (no ne) b =
+          let e : j ≡ 2 * (j / 2) + 1 = omega arith in
+          let q : j % 2 ≡ 1 = omega arith in
+          rw q (ap (λ (k : ℕ). getD o k 0) e ∙ F .below (j / 2) (omega arith) (omega arith) .1)

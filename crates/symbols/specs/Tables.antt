@@ -2,11 +2,12 @@
 -- here.
 -- Assumes nothing.
 use mathlib.Core.Path.{_≡_}
+use mathlib.Core.Logic.{_≢_}
 use mathlib.Core.Bool.{cond}
 use mathlib.Core.List.{List}
 use Prim.Native.Nat.{ℕ, zero, suc, _+_, _*_, _-_, _/_, _%_, _^_, _<_}
 use lib.Dec.{eqb, ltb}
-use lib.ListN.{getD}
+use lib.ListN.{length, getD, set, drop}
 use Rattle.bits.specs.Bits.{value, number, bitOf}
 use Rattle.bits.specs.Words.{wordAt, rowOf}
 use Rattle.symbols.specs.Pilots.{pilots}
@@ -28,6 +29,16 @@ crossed n x y = x % 2 ^ n * 2 ^ (55 - n) + y / 2 ^ n
 -- the first half of the halves x and y turned by n places; the second half is that of y and x
 unfoldable pub turnedFirst : ℕ → ℕ → ℕ → ℕ
 turnedFirst n x y = cond (ltb n 55) (crossed n y x) (crossed (n - 55) x y)
+
+-- word i of the row o is w
+abbrev pub Holds : List ℕ → ℕ → ℕ → Type 0
+Holds o i w = (getD o (2 * i) 0 ≡ w / 2 ^ 64) × (getD o (2 * i + 1) 0 ≡ w % 2 ^ 64)
+
+-- the row o has the first k words of lane p of the row s, turned by n places; its other lanes are those of o₀
+pub record LaneTurned (n p : ℕ) (s o₀ : List ℕ) (k : ℕ) (o : List ℕ) : Type 0 where
+  pub long : length o ≡ 768
+  pub here : (i : ℕ) → i < 384 → i % 32 ≡ p → i / 32 < k → Holds o i (turned n (wordAt s i))
+  pub there : (j : ℕ) → j / 2 % 32 ≢ p → getD o j 0 ≡ getD o₀ j 0
 
 -- a row of words, each of lane p turned by m p places
 unfoldable pub turnedRow : ℕ → List ℕ → List ℕ
@@ -132,14 +143,15 @@ joined q v =
       d = q .d * 65536 + v % 65536;
     }
 
--- four numbers of 32 pairs without the first pair of each
-unfoldable pub masked : Quad → Quad
-masked q = record { a = q .a % 2 ^ 62; b = q .b % 2 ^ 62; c = q .c % 2 ^ 62; d = q .d % 2 ^ 62 }
+-- a row with four numbers put at the places o, o + 2, o + 4, o + 6
+unfoldable pub quadPut : Quad → ℕ → List ℕ → List ℕ
+quadPut q o s = set (set (set (set s o (q .a)) (o + 2) (q .b)) (o + 4) (q .c)) (o + 6) (q .d)
+
+-- number j of the row of a frame's words with their bits at their places: of the lane j % 8 / 2, of the four, in the first or the second 32 of the
+-- 64 symbols j / 8. The pilot's pair stands above an upper number's 62 bits, where it is no part of the word
+unfoldable pub numberAt : List ℕ → ℕ → ℕ
+numberAt f j = gathered 32 (j / 8 % 8 * 63 + 3 + j % 2 * 28) (drop (j / 8 * 64 + j % 2 * 32) f) (j % 8 / 2)
 
 -- word i of a frame with its bits at their places
 abbrev pub placedWord : List ℕ → ℕ → ℕ
 placedWord f i = number 126 (placedBit f (i / 32) (i % 32))
-
--- and the row of such words
-unfoldable pub placedRow : List ℕ → List ℕ
-placedRow f = rowOf 384 (placedWord f)

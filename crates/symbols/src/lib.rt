@@ -8,7 +8,7 @@ ghost use Rattle.bits.specs.Bits.{tabulate};
 ghost use Rattle.symbols.specs.Levels.{levelOf, labelOf};
 ghost use Rattle.symbols.specs.Pilots.{pilots, met, locks};
 ghost use Rattle.symbols.specs.Frame.{frameOf, wordsOf};
-ghost use Rattle.symbols.specs.Tables.{IsCast, IsSpread, Room, crossed, turnedFirst, turned, turnedRow, castOf, spreadOf, numberOf, quadAt, symbolFrom, fourFrom, mappedAt, quadOf, fieldsOf, joined, masked, placedRow};
+ghost use Rattle.symbols.specs.Tables.{IsCast, IsSpread, Room, crossed, turnedFirst, turned, LaneTurned, turnedRow, castOf, spreadOf, numberOf, quadAt, symbolFrom, fourFrom, mappedAt, quadOf, fieldsOf, joined, quadPut, numberAt};
 
 mod tables;
 
@@ -158,21 +158,57 @@ fn turn(hi: u64, lo: u64, n: u64) -> Word
     }
 }
 
+// The twelve words of lane p turned by n places.
+fn turn_lane(words: &[u64], p: usize, n: u64, out: &mut [u64])
+    requires { ⌜ (length (now words) ≡ 768) × (length (now out) ≡ 768) ⌝ }
+    requires { ⌜ (p < 32) × (n < 110) ⌝ }
+    ensures { λ _. ⌜ LaneTurned n p (now (words .entry)) (now (out .entry)) 12 (now (out .exit)) ⌝ }
+{
+    let mut k: usize = 0;
+    while k < 12 {
+        let i = 32 * k + p;
+        let hi = words[2 * i];
+        let lo = words[2 * i + 1];
+        let w = turn(hi % 4611686018427387904, lo, n);
+        out[2 * i] = w.hi;
+        out[2 * i + 1] = w.lo;
+        k += 1;
+    }
+}
+
+// The same by a literal for each amount that the shuffle has: compiled so, the shifts take half the time.
+fn shuffle_lane(words: &[u64], p: usize, n: u64, out: &mut [u64])
+    requires { ⌜ (length (now words) ≡ 768) × (length (now out) ≡ 768) ⌝ }
+    requires { ⌜ (p < 32) × (n < 110) ⌝ }
+    ensures { λ _. ⌜ LaneTurned n p (now (words .entry)) (now (out .entry)) 12 (now (out .exit)) ⌝ }
+{
+    match n {
+        0 => turn_lane(words, p, 0, out),
+        10 => turn_lane(words, p, 10, out),
+        20 => turn_lane(words, p, 20, out),
+        30 => turn_lane(words, p, 30, out),
+        40 => turn_lane(words, p, 40, out),
+        50 => turn_lane(words, p, 50, out),
+        60 => turn_lane(words, p, 60, out),
+        70 => turn_lane(words, p, 70, out),
+        80 => turn_lane(words, p, 80, out),
+        90 => turn_lane(words, p, 90, out),
+        100 => turn_lane(words, p, 100, out),
+        _ => turn_lane(words, p, n, out),
+    }
+}
+
 // Each word of a row turned, a word of lane p by so many places times p.
 fn turn_words(words: &[u64], places: usize, out: &mut [u64])
     requires { ⌜ (length (now words) ≡ 768) × (length (now out) ≡ 768) ⌝ }
     requires { ⌜ places < 110 ⌝ }
     ensures { λ _. ⌜ now (out .exit) ≡ turnedRow places (now (words .entry)) ⌝ }
 {
-    let mut i: usize = 0;
-    while i < 384 {
-        let hi = words[2 * i];
-        let lo = words[2 * i + 1];
-        let n = (places * (i % 32) % 110) as u64;
-        let w = turn(hi % 4611686018427387904, lo, n);
-        out[2 * i] = w.hi;
-        out[2 * i + 1] = w.lo;
-        i += 1;
+    let mut p: usize = 0;
+    while p < 32 {
+        let n = (places * p % 110) as u64;
+        shuffle_lane(words, p, n, out);
+        p += 1;
     }
 }
 
@@ -333,39 +369,30 @@ fn gather(t: &[u64; 1024], s: &[u8], at: usize, l: usize) -> Quad
     q
 }
 
-// Four numbers of 32 pairs without the first pair, which is the pilot's.
-fn mask(q: Quad) -> Quad
-    ensures { λ r. ⌜ r ≡ masked q ⌝ }
+// Four numbers put into a row, every other from place o on.
+fn put_quad(q: Quad, o: usize, out: &mut [u64])
+    requires { ⌜ o + 6 < length (now out) ⌝ }
+    ensures { λ _. ⌜ now (out .exit) ≡ quadPut q o (now (out .entry)) ⌝ }
 {
-    Quad {
-        a: q.a % 4611686018427387904,
-        b: q.b % 4611686018427387904,
-        c: q.c % 4611686018427387904,
-        d: q.d % 4611686018427387904,
-    }
+    out[o] = q.a;
+    out[o + 2] = q.b;
+    out[o + 4] = q.c;
+    out[o + 6] = q.d;
 }
 
-// The words of a frame, with their bits at their places: of each 64 symbols, the upper and the lower numbers of four words.
+// The words of a frame, with their bits at their places: of each 32 symbols, the upper or the lower numbers of four words.
 fn gather_words(t: &[u64; 1024], frame: &[u8], words: &mut [u64])
     requires { ⌜ IsSpread (now t) ⌝ }
     requires { ⌜ (length (now frame) ≡ 6144) × (length (now words) ≡ 768) ⌝ }
-    ensures { λ _. ⌜ now (words .exit) ≡ placedRow (now (frame .entry)) ⌝ }
+    ensures { λ _. ⌜ now (words .exit) ≡ tabulate 768 (numberAt (now (frame .entry))) ⌝ }
 {
-    let mut g: usize = 0;
-    while g < 96 {
-        let l = g % 8 * 63;
-        let p = mask(gather(t, frame, g * 64, l + 3));
-        let q = gather(t, frame, g * 64 + 32, l + 31);
-        let o = g * 8;
-        words[o] = p.a;
-        words[o + 1] = q.a;
-        words[o + 2] = p.b;
-        words[o + 3] = q.b;
-        words[o + 4] = p.c;
-        words[o + 5] = q.c;
-        words[o + 6] = p.d;
-        words[o + 7] = q.d;
-        g += 1;
+    let mut h: usize = 0;
+    while h < 192 {
+        let l = h / 2 % 8 * 63 + 3 + h % 2 * 28;
+        let q = gather(t, frame, h * 32, l);
+        let o = h / 2 * 8 + h % 2;
+        put_quad(q, o, words);
+        h += 1;
     }
 }
 
