@@ -15,7 +15,7 @@ extern "C" {
 #define LR800_FLAGS 384 /* a byte for each word of a frame, that of word k of lane p at 32 k + p: 0, 1 or 2 bits mended, 3 flagged */
 
 /* Sends a frame. The store is the sender's own: lend it to every call of a stream, and to no receiver.
- * Returns 0, or the lowest of these, and then nothing is changed:
+ * Returns 0 when done: store and output are then written in full. Else the lowest of these, and nothing is changed:
  *   1  input is not LR800_LANES bytes long
  *   2  store is not LR800_STORE bytes long
  *   3  output is not LR800_FRAME bytes long
@@ -23,13 +23,14 @@ extern "C" {
 uint32_t lr800_send(const uint8_t *input, size_t input_length, uint8_t *store, size_t store_length, uint8_t *output, size_t output_length);
 
 /* Receives a frame. The store is the receiver's own: lend it to every call of a stream, and to no sender.
- * Returns 0, or the lowest of these, and then nothing is changed:
+ * Returns 0 when done: store, output and flags are then written in full. Else the lowest of these, and nothing is changed:
  *   1  input is not LR800_FRAME bytes long
  *   2  store is not LR800_STORE bytes long
  *   3  output is not LR800_LANES bytes long
  *   4  flags is not LR800_FLAGS bytes long
- *   5  no lock: 25 or more of the 96 pilot bytes differ. The frame is lost, and an account must be told so.
- * Lanes come back 36 blocks (1,440 bits) later, behind zeros from a fresh store.
+ *   5  no lock: 25 or more of the 96 pilot bytes differ. The frame is lost.
+ * If both stores were fresh at the first frame and every frame was received, each lane comes back 36 blocks (1,440 bits) later, behind zeros. After a frame
+ * that was lost or refused, 18 blocks of each lane come back wrong.
  * The buffers must not overlap. A length of 0 may come with a null pointer, another length may not. */
 uint32_t lr800_receive(const uint8_t *input, size_t input_length, uint8_t *store, size_t store_length, uint8_t *output, size_t output_length,
                        uint8_t *flags, size_t flags_length);

@@ -7,13 +7,13 @@ use Prim.Native.Nat.{ℕ, zero, suc, _+_, _-_, _*_, _/_, _^_, _<_}
 use native.Mathlib.Nat.{zero-add, not-suc-le-zero}
 use native.Mathlib.Omega.{arith}
 use native.Mathlib.Decide.{decLt}
-use lib.Dec.{T, eqb, eqb→eq, lit<}
+use lib.Dec.{T, eqb, eqb→eq, ltb, ltb→lt, lit<}
 use lib.ListN.{length, getD, drop}
 use lib.Seq.{getD-drop}
 use lib.Bits.{bitXor}
 use Rattle.bits.proofs.Table.{each, range-rule, and-left, and-right}
 use Rattle.bch.specs.Code.{stepOf, feedOf, remainder}
-use Rattle.bch.specs.Tables.{column, columns, Pattern, IsRemainders, IsColumns, Finds, pairOf, roundOf, valuesOf, risingOf, placesOf}
+use Rattle.bch.specs.Tables.{column, columns, Pattern, IsRemainders, IsColumns, IsBit, Finds, pairOf, roundOf, valuesOf, risingOf, placesOf}
 use Rattle.bch.specs.declared.Pair.{Pair}
 use Rattle.bch.specs.declared.Mend.{Mend}
 use Rattle.bch.specs.declared.Mend.the-variants.{Clean, One, Two, Flagged}
@@ -327,6 +327,73 @@ bitColumns =
     7173 ∷ 43351 ∷ 62462 ∷ 31231 ∷ 39850 ∷ 19925 ∷ 33215 ∷ 59274 ∷ 29637 ∷ 40631 ∷ 59406 ∷ 29703 ∷ 40278 ∷ 20139 ∷ 32768 ∷ 16384 ∷
     8192 ∷ 4096 ∷ 2048 ∷ 1024 ∷ 512 ∷ 256 ∷ 128 ∷ 64 ∷ 32 ∷ 16 ∷ 8 ∷ 4 ∷ 2 ∷ 1 ∷ []
 
+-- `BIT`
+abbrev pub bit : List ℕ
+bit =
+    2305843009213693952 ∷ 0 ∷ 1152921504606846976 ∷ 0 ∷
+    576460752303423488 ∷ 0 ∷ 288230376151711744 ∷ 0 ∷
+    144115188075855872 ∷ 0 ∷ 72057594037927936 ∷ 0 ∷
+    36028797018963968 ∷ 0 ∷ 18014398509481984 ∷ 0 ∷
+    9007199254740992 ∷ 0 ∷ 4503599627370496 ∷ 0 ∷
+    2251799813685248 ∷ 0 ∷ 1125899906842624 ∷ 0 ∷
+    562949953421312 ∷ 0 ∷ 281474976710656 ∷ 0 ∷
+    140737488355328 ∷ 0 ∷ 70368744177664 ∷ 0 ∷
+    35184372088832 ∷ 0 ∷ 17592186044416 ∷ 0 ∷
+    8796093022208 ∷ 0 ∷ 4398046511104 ∷ 0 ∷
+    2199023255552 ∷ 0 ∷ 1099511627776 ∷ 0 ∷
+    549755813888 ∷ 0 ∷ 274877906944 ∷ 0 ∷
+    137438953472 ∷ 0 ∷ 68719476736 ∷ 0 ∷
+    34359738368 ∷ 0 ∷ 17179869184 ∷ 0 ∷
+    8589934592 ∷ 0 ∷ 4294967296 ∷ 0 ∷
+    2147483648 ∷ 0 ∷ 1073741824 ∷ 0 ∷
+    536870912 ∷ 0 ∷ 268435456 ∷ 0 ∷
+    134217728 ∷ 0 ∷ 67108864 ∷ 0 ∷
+    33554432 ∷ 0 ∷ 16777216 ∷ 0 ∷
+    8388608 ∷ 0 ∷ 4194304 ∷ 0 ∷
+    2097152 ∷ 0 ∷ 1048576 ∷ 0 ∷
+    524288 ∷ 0 ∷ 262144 ∷ 0 ∷
+    131072 ∷ 0 ∷ 65536 ∷ 0 ∷
+    32768 ∷ 0 ∷ 16384 ∷ 0 ∷
+    8192 ∷ 0 ∷ 4096 ∷ 0 ∷
+    2048 ∷ 0 ∷ 1024 ∷ 0 ∷
+    512 ∷ 0 ∷ 256 ∷ 0 ∷
+    128 ∷ 0 ∷ 64 ∷ 0 ∷
+    32 ∷ 0 ∷ 16 ∷ 0 ∷
+    8 ∷ 0 ∷ 4 ∷ 0 ∷
+    2 ∷ 0 ∷ 1 ∷ 0 ∷
+    0 ∷ 9223372036854775808 ∷ 0 ∷ 4611686018427387904 ∷
+    0 ∷ 2305843009213693952 ∷ 0 ∷ 1152921504606846976 ∷
+    0 ∷ 576460752303423488 ∷ 0 ∷ 288230376151711744 ∷
+    0 ∷ 144115188075855872 ∷ 0 ∷ 72057594037927936 ∷
+    0 ∷ 36028797018963968 ∷ 0 ∷ 18014398509481984 ∷
+    0 ∷ 9007199254740992 ∷ 0 ∷ 4503599627370496 ∷
+    0 ∷ 2251799813685248 ∷ 0 ∷ 1125899906842624 ∷
+    0 ∷ 562949953421312 ∷ 0 ∷ 281474976710656 ∷
+    0 ∷ 140737488355328 ∷ 0 ∷ 70368744177664 ∷
+    0 ∷ 35184372088832 ∷ 0 ∷ 17592186044416 ∷
+    0 ∷ 8796093022208 ∷ 0 ∷ 4398046511104 ∷
+    0 ∷ 2199023255552 ∷ 0 ∷ 1099511627776 ∷
+    0 ∷ 549755813888 ∷ 0 ∷ 274877906944 ∷
+    0 ∷ 137438953472 ∷ 0 ∷ 68719476736 ∷
+    0 ∷ 34359738368 ∷ 0 ∷ 17179869184 ∷
+    0 ∷ 8589934592 ∷ 0 ∷ 4294967296 ∷
+    0 ∷ 2147483648 ∷ 0 ∷ 1073741824 ∷
+    0 ∷ 536870912 ∷ 0 ∷ 268435456 ∷
+    0 ∷ 134217728 ∷ 0 ∷ 67108864 ∷
+    0 ∷ 33554432 ∷ 0 ∷ 16777216 ∷
+    0 ∷ 8388608 ∷ 0 ∷ 4194304 ∷
+    0 ∷ 2097152 ∷ 0 ∷ 1048576 ∷
+    0 ∷ 524288 ∷ 0 ∷ 262144 ∷
+    0 ∷ 131072 ∷ 0 ∷ 65536 ∷
+    0 ∷ 32768 ∷ 0 ∷ 16384 ∷
+    0 ∷ 8192 ∷ 0 ∷ 4096 ∷
+    0 ∷ 2048 ∷ 0 ∷ 1024 ∷
+    0 ∷ 512 ∷ 0 ∷ 256 ∷
+    0 ∷ 128 ∷ 0 ∷ 64 ∷
+    0 ∷ 32 ∷ 0 ∷ 16 ∷
+    0 ∷ 8 ∷ 0 ∷ 4 ∷
+    0 ∷ 2 ∷ 0 ∷ 1 ∷ []
+
 -- ---- `REMAINDERS`: its first 256 entries are the bytes times x^16, and each other is the one 256 before it times x^8
 
 -- a test of two lists side by side
@@ -400,6 +467,36 @@ column-entry i h =
 
 pub is-columns : IsColumns bitColumns
 is-columns = record { entry = column-entry }
+
+-- ---- `BIT`: two numbers a place
+
+bit-ok : ℕ → Bool
+bit-ok i = eqb (getD bit (2 * i) 0 * 2 ^ 64 + getD bit (2 * i + 1) 0) (2 ^ (125 - i)) && (ltb (getD bit (2 * i) 0) (2 ^ 62) && ltb (getD bit (2 * i + 1) 0) (2 ^ 64))
+
+bit-test : T (each bit-ok 126 0)
+unfolding bit-ok
+bit-test = tt
+
+pub is-bit : IsBit bit
+unfolding bit-ok
+is-bit =
+    record {
+      entry = λ i h. eqb→eq (number i) (2 ^ (125 - i)) (and-left (eqb (number i) (2 ^ (125 - i))) (fits i) (rule i h));
+      small = λ i h.
+          let f = and-right (eqb (number i) (2 ^ (125 - i))) (fits i) (rule i h) in
+          let upper = ltb (getD bit (2 * i) 0) (2 ^ 62) in
+          let lower = ltb (getD bit (2 * i + 1) 0) (2 ^ 64) in
+          (ltb→lt (getD bit (2 * i) 0) (2 ^ 62) (and-left upper lower f), ltb→lt (getD bit (2 * i + 1) 0) (2 ^ 64) (and-right upper lower f));
+    }
+  where
+    number : ℕ → ℕ
+    number i = getD bit (2 * i) 0 * 2 ^ 64 + getD bit (2 * i + 1) 0
+
+    fits : ℕ → Bool
+    fits i = ltb (getD bit (2 * i) 0) (2 ^ 62) && ltb (getD bit (2 * i + 1) 0) (2 ^ 64)
+
+    rule : (i : ℕ) → i < 126 → T (bit-ok i)
+    rule i h = range-rule bit-ok 126 0 bit-test i (omega arith) h
 
 -- ---- `FIELD`, `LOG` and `RATIO`: from the remainder of each pattern of one bit or two they lead to its places
 

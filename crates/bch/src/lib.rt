@@ -7,7 +7,7 @@ ghost use Rattle.bch.specs.Code.{stepOf, feedOf, remainder, parityOf, fl
 ghost use Rattle.bch.specs.Mend.{mended, flagOf};
 ghost use Rattle.bits.specs.Words.{wordOf};
 ghost use Rattle.bch.specs.Word.{informationOf, decoded, codedFrame, mendedFrame, flagsOf};
-ghost use Rattle.bch.specs.Tables.{Answers, Within, IsRemainders, IsColumns, Finds, risingOf, roundOf, valuesOf, pairOf, confirmed};
+ghost use Rattle.bch.specs.Tables.{Answers, Within, IsRemainders, IsColumns, IsBit, Finds, risingOf, roundOf, valuesOf, pairOf, confirmed};
 
 mod tables;
 
@@ -192,40 +192,32 @@ fn find(field: &[u16; 512], log: &[u16; 128], ratio: &[u16; 255], t: &[u16; 126]
     confirm(t, s, p)
 }
 
-// x or nothing, as b is 1 or 0, without a branch.
-fn times(x: u64, b: u64) -> u64
-    requires { ⌜ b < 2 ⌝ }
-    ensures { λ r. ⌜ r ≡ x * b ⌝ }
-{
-    x * b
-}
-
-// The word with bit i turned over, in the one number or in the other; places are any, so that a branch would be guessed wrong every other time.
-fn turn(w: Word, i: u64) -> Word
+// The word with bit i turned over, by a look-up: places are any, so that a branch on them would be guessed wrong every other time.
+fn turn(bit: &[u64; 252], w: Word, i: u64) -> Word
+    requires { ⌜ IsBit (now bit) ⌝ }
     requires { ⌜ (w .hi < 2 ^ 62) × (i < 126) ⌝ }
     ensures { λ v. ⌜ (v .hi * 2 ^ 64 + v .lo ≡ flipped i (w .hi * 2 ^ 64 + w .lo)) × (v .hi < 2 ^ 62) ⌝ }
 {
-    let d = 125 - i;
-    let bit = 1u64 << (d % 64);
-    let upper = d / 64;
+    let k = (2 * i) as usize;
     Word {
-        hi: w.hi ^ times(bit, upper),
-        lo: w.lo ^ times(bit, 1 - upper),
+        hi: w.hi ^ bit[k],
+        lo: w.lo ^ bit[k + 1],
     }
 }
 
 // The word with the bits of a pattern turned over.
-fn turned(w: Word, m: Mend) -> Word
+fn turned(bit: &[u64; 252], w: Word, m: Mend) -> Word
+    requires { ⌜ IsBit (now bit) ⌝ }
     requires { ⌜ w .hi < 2 ^ 62 ⌝ }
     requires { ⌜ Within m ⌝ }
     ensures { λ v. ⌜ v .hi * 2 ^ 64 + v .lo ≡ mended (w .hi * 2 ^ 64 + w .lo) m ⌝ }
 {
     match m {
         Mend::Clean => w,
-        Mend::One(i) => turn(w, i),
+        Mend::One(i) => turn(bit, w, i),
         Mend::Two(i, j) => {
-            let x = turn(w, i);
-            turn(x, j)
+            let x = turn(bit, w, i);
+            turn(bit, x, j)
         }
         Mend::Flagged => w,
     }
@@ -238,18 +230,20 @@ fn decode_word(
     log: &[u16; 128],
     ratio: &[u16; 255],
     column: &[u16; 126],
+    bit: &[u64; 252],
     hi: u64,
     lo: u64,
 ) -> Decoded
     requires { ⌜ IsRemainders (now remainders) ⌝ }
     requires { ⌜ Finds (now field) (now log) (now ratio) ⌝ }
     requires { ⌜ IsColumns (now column) ⌝ }
+    requires { ⌜ IsBit (now bit) ⌝ }
     requires { ⌜ hi < 2 ^ 62 ⌝ }
     ensures { λ r. ⌜ r ≡ decoded (hi * 2 ^ 64 + lo) ⌝ }
 {
     let s = syndrome(remainders, hi, lo);
     let m = find(field, log, ratio, column, s);
-    let w = turned(Word { hi, lo }, m);
+    let w = turned(bit, Word { hi, lo }, m);
     Decoded {
         hi: w.hi,
         lo: w.lo,
@@ -278,12 +272,14 @@ pub fn decode(hi: u64, lo: u64) -> Decoded
     let log = tables::LOG;
     let ratio = tables::RATIO;
     let column = tables::COLUMN;
+    let bit = tables::BIT;
     decode_word(
         &remainders,
         &field,
         &log,
         &ratio,
         &column,
+        &bit,
         hi % 4611686018427387904,
         lo,
     )
@@ -319,12 +315,14 @@ fn decode_words(
     log: &[u16; 128],
     ratio: &[u16; 255],
     column: &[u16; 126],
+    bit: &[u64; 252],
     words: &mut [u64],
     flags: &mut [u8],
 )
     requires { ⌜ IsRemainders (now remainders) ⌝ }
     requires { ⌜ Finds (now field) (now log) (now ratio) ⌝ }
     requires { ⌜ IsColumns (now column) ⌝ }
+    requires { ⌜ IsBit (now bit) ⌝ }
     requires { ⌜ (length (now words) ≡ 768) × (length (now flags) ≡ 384) ⌝ }
     ensures { λ _. ⌜ (now (words .exit) ≡ mendedFrame (now (words .entry))) × (now (flags .exit) ≡ flagsOf (now (words .entry))) ⌝ }
 {
@@ -338,6 +336,7 @@ fn decode_words(
             log,
             ratio,
             column,
+            bit,
             hi % 4611686018427387904,
             lo,
         );
@@ -358,5 +357,15 @@ pub fn decode_frame(words: &mut [u64; 768], flags: &mut [u8; 384])
     let log = tables::LOG;
     let ratio = tables::RATIO;
     let column = tables::COLUMN;
-    decode_words(&remainders, &field, &log, &ratio, &column, words, flags);
+    let bit = tables::BIT;
+    decode_words(
+        &remainders,
+        &field,
+        &log,
+        &ratio,
+        &column,
+        &bit,
+        words,
+        flags,
+    );
 }

@@ -1,4 +1,4 @@
--- `OtherPlaces`: where two places of one parity are on one side, three flips in one word make two symbols of one codeword wrong.
+-- `SpansExist`; and `OtherPlaces`: where two places of one parity are on one side, three flips in one word make two symbols of one codeword wrong.
 -- Assumes nothing.
 use mathlib.Core.Path.{_≡_, refl, sym, ap, ap₂, _∙_, subst}
 use mathlib.Core.Logic.{_≢_, inl, ⊎-elim}
@@ -15,7 +15,7 @@ use borrow.Author.Tests.{ltb-true, lt-ltb, eq-eqb, ne-eqb}
 use Rattle.bits.specs.Bits.{bitOf, count}
 use Rattle.bits.specs.Words.{wordAt, rowOf}
 use Rattle.bits.proofs.Words.{row-at}
-use Rattle.bits.proofs.Count.{count-pos}
+use Rattle.bits.proofs.Count.{count-none, count-pos}
 use Rattle.bits.proofs.Weight.{weight-zero}
 use Rattle.bch.specs.Code.{distance}
 use Rattle.bch.proofs.Distance.{distance-weight}
@@ -24,14 +24,14 @@ use Rattle.lanes.specs.Permutation.{Lanes, Places, named, partner}
 use Rattle.lanes.specs.Stream.{streamBit, deinterleaved}
 use Rattle.lanes.proofs.Return.{across, across-lt, across-twice, fetched}
 use Rattle.symbols.specs.Frame.{frameOf, arrived}
-use Rattle.symbols.specs.Pilots.{pilots}
+use Rattle.symbols.specs.Pilots.{pilots, lockLimit}
 use Rattle.symbols.proofs.Return.{frame-pilot, arrived-frame}
 use Rattle.framing.specs.Receive.{broughtLanes}
 use Rattle.framing.proofs.Receiving.{all-lengths}
-use Rattle.framing.proofs.Received.{passed, brought-bit, store-whole}
-use Rattle.demands.specs.Trial.{hit, Trial, Accepted, flipsIn}
-use Rattle.demands.specs.ReedSolomon.{Labels, Spans, carries, heavyWords, wrongSymbol, wrongSymbols, Exceeded, OtherPlaces, OtherPairs}
-use Rattle.demands.proofs.Hit.{hit-at, hit-word, hit-length, unhit-locks}
+use Rattle.framing.proofs.Received.{passedOn, brought-bit, store-whole}
+use Rattle.demands.specs.Trial.{hit, hitPilots, Trial, Accepted, flipsIn}
+use Rattle.demands.specs.ReedSolomon.{Labels, Spans, SpansExist, carries, heavyWords, wrongSymbol, wrongSymbols, Exceeded, OtherPlaces, OtherPairs}
+use Rattle.demands.proofs.Hit.{hit-at, hit-word, hit-length, hit-locks}
 use Rattle.demands.proofs.Trial.{frame-pilots, differs-by, trials-exist}
 use Rattle.demands.proofs.ReedSolomon.{differ-none}
 use Rattle.demands.proofs.Totals.{both, left, total-one, total-two}
@@ -78,10 +78,10 @@ unfolding flipsOf
 flips-pilot e k h =
     hit-at (frameOf (words e)) (frameOf (words 0)) (64 * k) (omega arith) ∙ ap₂ bitXor (frame-pilot (words e) k h) (frame-pilot (words 0) k h) ∙ xor-self (getD pilots k 0)
 
--- ---- labels by spans that begin with the stream: span, parity and lane
+-- ---- labels by spans that begin anywhere: span, parity and lane
 
-plain : Labels
-plain p s = (s / 68 * 2 + s % 2) * 32 + p
+plain : (ℕ → ℕ) → Labels
+plain before p s = ((s + before p) / 68 * 2 + s % 2) * 32 + p
 
 digits : (a b c d p : ℕ) → c < 2 → d < 2 → (a * 2 + c) * 32 + p ≡ (b * 2 + d) * 32 + p → (a ≡ b) × (c ≡ d)
 digits a b c d p hc hd e =
@@ -91,20 +91,24 @@ digits a b c d p hc hd e =
 other-lane : (a b p : ℕ) → p < 32 → a * 32 + p ≢ b * 32 + partner p
 other-lane a b p h e = omega arith
 
-plain-spans : (n : ℕ) → Spans n (λ _. 0) plain
+plain-spans : (n : ℕ) (before : ℕ → ℕ) → Spans n before (plain before)
 unfolding plain
-plain-spans n =
+plain-spans n before =
     record {
       alternate = λ p s t hp hs ht e. (
-        λ l. digits (s / 68) (t / 68) (s % 2) (t % 2) p (omega arith) (omega arith) l .1,
-        λ o. ap₂ (λ (a c : ℕ). (a * 2 + c) * 32 + p) (span s t e) o,
+        λ l. digits ((s + before p) / 68) ((t + before p) / 68) (s % 2) (t % 2) p (omega arith) (omega arith) l .1,
+        λ o. ap₂ (λ (a c : ℕ). (a * 2 + c) * 32 + p) e o,
       );
-      oneSpan = λ p s t hp hs ht l. let e = digits (s / 68) (t / 68) (s % 2) (t % 2) p (omega arith) (omega arith) l .0 in omega arith;
-      oneLane = λ p s t hp hs ht. other-lane (s / 68 * 2 + s % 2) (t / 68 * 2 + t % 2) p hp;
+      oneSpan = λ p s t hp hs ht l. digits ((s + before p) / 68) ((t + before p) / 68) (s % 2) (t % 2) p (omega arith) (omega arith) l .0;
+      oneOfTwo = λ p s t hp hs ht. other-lane ((s + before p) / 68 * 2 + s % 2) ((t + before (partner p)) / 68 * 2 + t % 2) p hp;
     }
-  where
-    span : (s t : ℕ) → (s + 0) / 68 ≡ (t + 0) / 68 → s / 68 ≡ t / 68
-    span s t e = omega arith
+
+pub spans-exist : SpansExist
+spans-exist n before = (plain before, plain-spans n before)
+
+-- that begin with the stream
+abbrev start : Labels
+start = plain (λ _. 0)
 
 differ-one : (x : ℕ) → differ x 1 ≢ x
 differ-one zero e = omega arith
@@ -139,14 +143,17 @@ module _ (ex : Places) (s t : ℕ) (order : s < t) (four : t < 4) (parity : s % 
   run : Trial ex 2 flips (zeros 5280) (zeros 6144) (zeros 5280) (zeros 384)
   run = trials-exist ex 2 flips (zeros 5280) (zeros 6144) (zeros 5280) (zeros 384) (λ f h. (long 5280 f, long 6144 f))
 
+  unhit : (f : ℕ) → hitPilots (flips f) ≡ 0
+  unfolding flips hitPilots
+  unhit f = count-none (λ k. not (eqb (getD (flipsOf (part f)) (64 * k) 0) 0)) 96 (λ k l. ap not (eq-eqb (getD (flipsOf (part f)) (64 * k) 0) 0 (flips-pilot (part f) k l)))
+
   accepted : Accepted run
-  unfolding flips
   accepted f h =
       run .received .call f h .number
       ∙ all-lengths (hit (run .frames f) (flips f)) (run .stores f) (zeros 5280 f) (zeros 384 f) (hit-length (run .frames f) (flips f))
       (store-whole ex 2 (λ f. hit (run .frames f) (flips f)) (zeros 5280) (zeros 384) (run .numbers) (run .stores) (run .back) (run .flagBytes) (run .received) f (omega arith))
       (long 5280 f) (long 384 f)
-      ∙ ap (λ (b : Bool). cond b 0 5) (unhit-locks (run .frames f) (flips f) (λ k l. frame-pilots run f k h l) (λ k l. flips-pilot (part f) k l))
+      ∙ ap (λ (b : Bool). cond b 0 5) (hit-locks (run .frames f) (flips f) (λ k l. frame-pilots run f k h l) ∙ ap (λ (n : ℕ). ltb n lockLimit) (unhit f))
 
   -- one word is hit by more than two flips
   absent : (p w : ℕ) → p < 32 → 2 < flipsIn flips p w → arrived (flips (w / 12)) (32 * (w % 12) + p) ≢ 0
@@ -173,8 +180,8 @@ module _ (ex : Places) (s t : ℕ) (order : s < t) (four : t < 4) (parity : s % 
           absurd (absent p w hp heavy (word ∙ ap (λ (b : Bool). cond (eqb (32 * (w % 12) + p) 0) (cond b e 0) 0) (ne-eqb (w / 12) 0 f) ∙ either (eqb (32 * (w % 12) + p) 0)))
 
   -- and both symbols come back wrong, since a flagged word passes on as received
-  flagged : passed e ≡ e
-  unfolding passed
+  flagged : passedOn e ≡ e
+  unfolding passedOn
   flagged = flagged-passes e (three-flagged 0 e nothing small three)
 
   -- the lane whose symbol s goes to lane 0
@@ -206,8 +213,8 @@ module _ (ex : Places) (s t : ℕ) (order : s < t) (four : t < 4) (parity : s % 
         let word : 32 * (i % 1320 / 110) + 0 ≡ 0 = omega arith in
         let bit : i % 110 ≡ i = omega arith in
         ap (deinterleaved ex left lane) late ∙ fetched ex left lane i ∙ ap₂ left (ap (across ex lane) symbol ∙ to-first) place ∙ brought-bit flips 0 i (lit< tt)
-        ∙ ap₂ (λ (f j : ℕ). bitOf 126 (passed (arrived (flips f) j)) (i % 110)) frame word
-        ∙ ap₂ (λ (v j : ℕ). bitOf 126 v j) (ap passed (flips-word e small 0 (lit< tt)) ∙ flagged) bit ∙ one
+        ∙ ap₂ (λ (f j : ℕ). bitOf 126 (passedOn (arrived (flips f) j)) (i % 110)) frame word
+        ∙ ap₂ (λ (v j : ℕ). bitOf 126 v j) (ap passedOn (flips-word e small 0 (lit< tt)) ∙ flagged) bit ∙ one
 
     symbol-wrong : wrongSymbol (run .back) (run .cleanBack) lane u ≡ true
     unfolding wrongSymbol
@@ -220,23 +227,23 @@ module _ (ex : Places) (s t : ℕ) (order : s < t) (four : t < 4) (parity : s % 
         (count-pos (λ k. not (eqb (streamBit (run .back) lane (10 * (u + 144) + k)) (streamBit (run .cleanBack) lane (10 * (u + 144) + k)))) 10 0 (lit< tt)
         (ap not (ne-eqb back clean (λ q. differ-one clean (sym is ∙ q)))))
 
-    counted : plain lane u ≡ plain lane s → (ltb (u + 144) (132 * 2) && wrongSymbol (run .back) (run .cleanBack) lane u && eqb (plain lane u) (plain lane s)) ≡ true
-    counted l = both (both (lt-ltb (u + 144) (132 * 2) (omega arith)) symbol-wrong) (eq-eqb (plain lane u) (plain lane s) l)
+    counted : start lane u ≡ start lane s → (ltb (u + 144) (132 * 2) && wrongSymbol (run .back) (run .cleanBack) lane u && eqb (start lane u) (start lane s)) ≡ true
+    counted l = both (both (lt-ltb (u + 144) (132 * 2) (omega arith)) symbol-wrong) (eq-eqb (start lane u) (start lane s) l)
 
-  same-label : plain lane t ≡ plain lane s
+  same-label : start lane t ≡ start lane s
   unfolding plain
   same-label =
-      let span : t / 68 ≡ s / 68 = omega arith in
+      let span : (t + 0) / 68 ≡ (s + 0) / 68 = omega arith in
       ap₂ (λ (a c : ℕ). (a * 2 + c) * 32 + lane) span (sym parity)
 
-  exceeds : heavyWords ex 2 flips plain (plain lane s) < wrongSymbols 2 (run .back) (run .cleanBack) plain (plain lane s)
+  exceeds : heavyWords ex 2 flips start (start lane s) < wrongSymbols 2 (run .back) (run .cleanBack) start (start lane s)
   unfolding heavyWords wrongSymbols
   exceeds =
       omega (
         arith,
-        total-one (λ p w. ltb 2 (flipsIn flips p w) && carries ex plain (plain lane s) p w) (12 * 2)
+        total-one (λ p w. ltb 2 (flipsIn flips p w) && carries ex start (start lane s) p w) (12 * 2)
             (λ p w hp hw y. first-only p w hp (ltb-true 2 (flipsIn flips p w) (left (ltb 2 (flipsIn flips p w)) _ y))),
-        total-two (λ p u. ltb (u + 144) (132 * 2) && wrongSymbol (run .back) (run .cleanBack) p u && eqb (plain p u) (plain lane s)) (132 * 2) lane s t lane-lt order (omega arith)
+        total-two (λ p u. ltb (u + 144) (132 * 2) && wrongSymbol (run .back) (run .cleanBack) p u && eqb (start p u) (start lane s)) (132 * 2) lane s t lane-lt order (omega arith)
             (counted s (omega arith) refl at-s refl) (counted t four (sym side) at-t same-label),
       )
 
@@ -252,9 +259,9 @@ module _ (ex : Places) (s t : ℕ) (order : s < t) (four : t < 4) (parity : s % 
         trial = run;
         accepted = accepted;
         before = λ _. 0;
-        label = plain;
-        spans = plain-spans 2;
-        codeword = plain lane s;
+        label = start;
+        spans = plain-spans 2 (λ _. 0);
+        codeword = start lane s;
         more = exceeds;
       }
 

@@ -5,8 +5,10 @@ use mathlib.Core.Bool.{true, not, _&&_}
 use mathlib.Core.List.{List}
 use Prim.Native.Nat.{ℕ, _+_, _*_, _/_, _%_, _^_, _≤_, _<_}
 use native.Mathlib.Nat.{zero-add}
+use native.Mathlib.Decide.{ℕ-discrete}
 use native.Mathlib.Omega.{arith}
 use lib.Dec.{eqb, ltb}
+use borrow.Author.Tests.{lt-ltb, eq-eqb, ne-eqb}
 use lib.ListN.{length, getD}
 use lib.Seq.{ext-getD}
 use lib.Bits.{bitXor, differ, xor-lt, xor-self, xor-zero-r}
@@ -15,7 +17,7 @@ use Rattle.bits.proofs.Tabulate.{length-tabulate, getD-tabulate}
 use Rattle.bits.proofs.Count.{count-cong}
 use Rattle.bits.proofs.Value.{bit-xor, bit-ext}
 use Rattle.bits.proofs.Fields.{bitAt-byte}
-use Rattle.bits.proofs.Xor.{xor-swap}
+use Rattle.bits.proofs.Xor.{xor-swap, xor-cancel}
 use Rattle.bits.proofs.Weight.{weight, weight-zero}
 use Rattle.bch.specs.Code.{CodeWord, distance}
 use Rattle.bch.specs.Mend.{mend, mended, flagOf}
@@ -28,11 +30,11 @@ use Rattle.symbols.specs.Mapping.{place, payloadAt, symbolOf, bitIn}
 use Rattle.symbols.specs.Pilots.{pilots, met, wrongPilots, locks, lockLimit}
 use Rattle.symbols.specs.Frame.{placedBit, arrived, wordsOf}
 use Rattle.symbols.proofs.Places.{place-lt, symbol-lt, bitIn-lt}
-use Rattle.symbols.proofs.Return.{payload-lt, pilots-lock, arrived-lt, arrived-bit}
+use Rattle.symbols.proofs.Return.{payload-lt, arrived-lt, arrived-bit}
 use Rattle.framing.specs.Receive.{broughtLanes, receivedFlags}
 use Rattle.framing.proofs.Receiving.{flags-length}
-use Rattle.framing.proofs.Received.{passed, passed-at, flag-at, brought-bit}
-use Rattle.demands.specs.Trial.{hit}
+use Rattle.framing.proofs.Received.{passedOn, passed-at, flag-at, brought-bit}
+use Rattle.demands.specs.Trial.{hit, hitPilots}
 
 module _ (f e : List ℕ) where
   pub hit-length : length (hit f e) ≡ 6144
@@ -67,31 +69,36 @@ module _ (f e : List ℕ) where
 
 -- ---- its lock
 
--- frames with equal pilots, hit by the same flips, lock or do not lock together
-pub hit-locks : (f f′ e : List ℕ) → ((k : ℕ) → k < 96 → getD f (64 * k) 0 ≡ getD f′ (64 * k) 0) → locks (hit f e) 0 ≡ locks (hit f′ e) 0
-unfolding locks wrongPilots met
-hit-locks f f′ e same = ap (λ (n : ℕ). ltb n lockLimit) (count-cong 96 _ _ (λ i h. ap not (at i h)))
+-- adding what is not 0 changes a number
+xor-test : (x e : ℕ) → eqb (bitXor x e) x ≡ eqb e 0
+xor-test x e = go (ℕ-discrete e 0)
   where
-    at : (i : ℕ) → i < 96 → (ltb (0 + 64 * i) (length (hit f e)) && eqb (getD (hit f e) (0 + 64 * i) 0) (getD pilots i 0)) ≡ (ltb (0 + 64 * i) (length (hit f′ e)) && eqb (getD (hit f′ e) (0 + 64 * i) 0) (getD pilots i 0))
-    at i h = rw (zero-add (64 * i), hit-length f e, hit-length f′ e, hit-at f e (64 * i) (omega arith), hit-at f′ e (64 * i) (omega arith), same i h)
+    go : Dec (e ≡ 0) → eqb (bitXor x e) x ≡ eqb e 0
+    go (yes z) = eq-eqb (bitXor x e) x (ap (bitXor x) z ∙ xor-zero-r x) ∙ sym (eq-eqb e 0 z)
+    go (no z) = ne-eqb (bitXor x e) x (λ s. z (sym (xor-cancel x e) ∙ ap (bitXor x) s ∙ xor-self x)) ∙ sym (ne-eqb e 0 z)
 
--- and where the flips leave the pilots alone they lock
-pub unhit-locks : (f e : List ℕ) → ((k : ℕ) → k < 96 → getD f (64 * k) 0 ≡ getD pilots k 0) → ((k : ℕ) → k < 96 → getD e (64 * k) 0 ≡ 0) → locks (hit f e) 0 ≡ true
-unhit-locks f e pilot none =
-    pilots-lock (hit f e) (hit-length f e)
-    (λ k h. hit-at f e (64 * k) (omega arith) ∙ ap (bitXor (getD f (64 * k) 0)) (none k h) ∙ xor-zero-r (getD f (64 * k) 0) ∙ pilot k h)
+-- a frame with the right pilots locks unless too many of them are hit
+pub hit-locks : (f e : List ℕ) → ((k : ℕ) → k < 96 → getD f (64 * k) 0 ≡ getD pilots k 0) → locks (hit f e) 0 ≡ ltb (hitPilots e) lockLimit
+unfolding locks wrongPilots met hitPilots
+hit-locks f e pilot = ap (λ (n : ℕ). ltb n lockLimit) (count-cong 96 _ _ (λ i h. ap not (at i h)))
+  where
+    there : (i : ℕ) → i < 96 → ltb (64 * i) 6144 ≡ true
+    there i h = lt-ltb (64 * i) 6144 (omega arith)
+
+    at : (i : ℕ) → i < 96 → (ltb (0 + 64 * i) (length (hit f e)) && eqb (getD (hit f e) (0 + 64 * i) 0) (getD pilots i 0)) ≡ eqb (getD e (64 * i) 0) 0
+    at i h = rw (zero-add (64 * i), hit-length f e, there i h, hit-at f e (64 * i) (omega arith), pilot i h) (xor-test (getD pilots i 0) (getD e (64 * i) 0))
 
 -- ---- what is made of a hit frame of code words
 
--- a code word is passed on as it is
-pub code-passed : (c : ℕ) → CodeWord c → c < 2 ^ 126 → passed c ≡ c
-unfolding passed
+-- a code word is passedOn on as it is
+pub code-passed : (c : ℕ) → CodeWord c → c < 2 ^ 126 → passedOn c ≡ c
+unfolding passedOn
 code-passed c C h = mends-two c c C h (omega (arith, distance-weight c c, ap (weight 126) (xor-self c), weight-zero 126)) .0
 
 module _ (f e : List ℕ) (code : (i : ℕ) → i < 384 → CodeWord (arrived f i)) where
-  -- a word is passed on as sent, but for what is left of the flips
-  passed-hit : (i : ℕ) → i < 384 → passed (arrived (hit f e) i) ≡ bitXor (passed (arrived f i)) (passed (arrived e i))
-  unfolding passed
+  -- a word is passedOn on as sent, but for what is left of the flips
+  passed-hit : (i : ℕ) → i < 384 → passedOn (arrived (hit f e) i) ≡ bitXor (passedOn (arrived f i)) (passedOn (arrived e i))
+  unfolding passedOn
   passed-hit i h =
       ap (λ (w : ℕ). mended w (mend w)) (hit-word f e i h) ∙ flips-alone (arrived f i) (arrived e i) (code i h) .1
       ∙ ap (λ (w : ℕ). bitXor w (mended (arrived e i) (mend (arrived e i)))) (sym (code-passed (arrived f i) (code i h) (arrived-lt f i)))
@@ -106,12 +113,12 @@ module _ (f e : List ℕ) (code : (i : ℕ) → i < 384 → CodeWord (arrived f 
 
   -- and at most two flips in every word leave nothing in the lanes
   pub brought-two : ((i : ℕ) → i < 384 → distance (arrived e i) 0 ≤ 2) → broughtLanes (hit f e) ≡ broughtLanes f
-  unfolding broughtLanes passed
+  unfolding broughtLanes passedOn
   brought-two two =
       lanes-information (mendedFrame (wordsOf (hit f e))) (mendedFrame (wordsOf f))
       (λ i h.
       ap (λ (w : ℕ). w / 2 ^ 16)
-      (passed-at (hit f e) i h ∙ passed-hit i h ∙ ap (bitXor (passed (arrived f i))) (two-vanish (arrived e i) (arrived-lt e i) (two i h)) ∙ xor-zero-r (passed (arrived f i)) ∙ sym (passed-at f i h)))
+      (passed-at (hit f e) i h ∙ passed-hit i h ∙ ap (bitXor (passedOn (arrived f i))) (two-vanish (arrived e i) (arrived-lt e i) (two i h)) ∙ xor-zero-r (passedOn (arrived f i)) ∙ sym (passed-at f i h)))
 
 -- over frames: the lanes brought are those brought undamaged, but for what the flips themselves bring
 pub brought-hit : (frames flips : ℕ → List ℕ) (p i : ℕ) → p < 32 → ((k : ℕ) → k < 384 → CodeWord (arrived (frames (i / 1320)) k))
@@ -121,4 +128,4 @@ brought-hit frames flips p i hp code =
     let e = flips (i / 1320) in
     let k = 32 * (i % 1320 / 110) + p in
     brought-bit (λ f. hit (frames f) (flips f)) p i hp ∙ ap (λ (w : ℕ). bitOf 126 w (i % 110)) (passed-hit f e code k (omega arith))
-    ∙ bit-xor 126 (passed (arrived f k)) (passed (arrived e k)) (i % 110) ∙ sym (ap₂ differ (brought-bit frames p i hp) (brought-bit flips p i hp))
+    ∙ bit-xor 126 (passedOn (arrived f k)) (passedOn (arrived e k)) (i % 110) ∙ sym (ap₂ differ (brought-bit frames p i hp) (brought-bit flips p i hp))

@@ -19,7 +19,7 @@ spans-label n before label S =
     record {
       near = λ p s t hp hs ht e. near (before p) s t (S .oneSpan p s t hp hs ht e);
       everyOther = λ p s t hp hs ht e. S .alternate p s t hp hs ht (S .oneSpan p s t hp hs ht e) .0 e;
-      oneLane = S .oneLane;
+      oneOfTwo = S .oneOfTwo;
     }
   where
     near : (o s t : ℕ) → (s + o) / 68 ≡ (t + o) / 68 → s < t + 68
@@ -89,5 +89,5 @@ module _ (ex : Places) (even : ex 0 ≢ ex 2) (odd : ex 1 ≢ ex 3) where
         go : (a b : Bool) → ex (s % 4) ≡ a → ex (t % 4) ≡ b → cond a (partner p) p ≡ cond b (partner q) q → (p ≡ q) × (s ≡ t)
         go true true i j e = here (cc) (omega arith)
         go false false i j e = here (cc) e
-        go true false i j e = absurd (L .oneLane p s t hp hs ht (c ∙ ap (λ (r : ℕ). label r t) (sym e)))
-        go false true i j e = absurd (L .oneLane q t s hq ht hs (sym c ∙ ap (λ (r : ℕ). label r s) e))
+        go true false i j e = absurd (L .oneOfTwo p s t hp hs ht (c ∙ ap (λ (r : ℕ). label r t) (sym e)))
+        go false true i j e = absurd (L .oneOfTwo q t s hq ht hs (sym c ∙ ap (λ (r : ℕ). label r s) e))

@@ -6,4 +6,5 @@ pub mod Totals
 pub mod Labels
 pub mod ReedSolomon
 pub mod Exceeded
+pub mod Theorems
 pub mod Empty

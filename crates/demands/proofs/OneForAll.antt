@@ -1,6 +1,6 @@
 -- `OneForAll` and `TwoFlips`: numbers hang on lengths and lock, flags and differences on the flips alone.
 -- Assumes nothing.
-use mathlib.Core.Path.{_≡_, sym, ap, ap₂, _∙_, subst}
+use mathlib.Core.Path.{_≡_, refl, sym, ap, ap₂, _∙_, subst}
 use mathlib.Core.Logic.{_≢_}
 use mathlib.Core.List.{List}
 use Prim.Native.Nat.{ℕ, zero, suc, _+_, _*_, _/_, _%_, _≤_, _<_}
@@ -16,14 +16,13 @@ use Rattle.lanes.specs.Interleaver.{unwovenFrame, unwovenStore}
 use Rattle.lanes.specs.Stream.{streamBit, deinterleaved}
 use Rattle.lanes.proofs.Return.{deinterleaved-lt}
 use Rattle.symbols.specs.Frame.{arrived}
-use Rattle.symbols.specs.Pilots.{locks}
 use Rattle.symbols.proofs.Return.{arrived-lt}
 use Rattle.framing.specs.Receive.{broughtLanes}
-use Rattle.framing.proofs.Received.{flag-at, number-cong, store-whole, call-done}
+use Rattle.framing.proofs.Received.{flag-at, call-done}
 use Rattle.demands.specs.Trial.{hit, Trial, Accepted, flipsIn}
 use Rattle.demands.specs.OneForAll.{Wrong, OneForAll, TwoFlips}
-use Rattle.demands.proofs.Hit.{hit-length, hit-locks, brought-two}
-use Rattle.demands.proofs.Trial.{code-words, frame-pilots, flags-of-flips, clean-accepted, differs-by}
+use Rattle.demands.proofs.Hit.{brought-two}
+use Rattle.demands.proofs.Trial.{code-words, refused-exactly, flags-of-flips, clean-accepted, differs-by}
 
 -- ---- two trials
 
@@ -46,17 +45,10 @@ one-for-all ex n flips lanes room outs flagBuffers a lanes′ room′ outs′ fl
   λ accepted p i hp hi. (places a b accepted (both accepted) p i hp hi, places b a (both accepted) accepted p i hp hi),
 )
   where
-    locked : (f : ℕ) → f < n → locks (hit (a .frames f) (flips f)) 0 ≡ locks (hit (b .frames f) (flips f)) 0
-    locked f h = hit-locks (a .frames f) (b .frames f) (flips f) (λ k l. frame-pilots a f k h l ∙ sym (frame-pilots b f k h l))
-
     numbers : (f : ℕ) → f < n → a .numbers f ≡ b .numbers f
     numbers f h =
-        let s = store-whole ex n (λ f. hit (a .frames f) (flips f)) outs flagBuffers (a .numbers) (a .stores) (a .back) (a .flagBytes) (a .received) f (omega arith) in
-        let s′ = store-whole ex n (λ f. hit (b .frames f) (flips f)) outs′ flagBuffers′ (b .numbers) (b .stores) (b .back) (b .flagBytes) (b .received) f (omega arith) in
-        a .received .call f h .number
-        ∙ number-cong (hit (a .frames f) (flips f)) (a .stores f) (outs f) (flagBuffers f) (hit (b .frames f) (flips f)) (b .stores f) (outs′ f) (flagBuffers′ f)
-        (hit-length (a .frames f) (flips f) ∙ sym (hit-length (b .frames f) (flips f))) (s ∙ sym s′) (lengths f h .0) (lengths f h .1) (locked f h)
-        ∙ sym (b .received .call f h .number)
+        refused-exactly ex n flips lanes room outs flagBuffers a f h ∙ rw (lengths f h .0, lengths f h .1) refl
+        ∙ sym (refused-exactly ex n flips lanes′ room′ outs′ flagBuffers′ b f h)
 
     both : Accepted a → Accepted b
     both accepted f h = sym (numbers f h) ∙ accepted f h
@@ -91,19 +83,22 @@ module _ {ex : Places} {n : ℕ} {flips lanes room outs flagBuffers : ℕ → Li
 
 pub two-flips : TwoFlips
 unfolding flipsIn
-two-flips ex n flips lanes room outs flagBuffers t two = (flags, λ accepted. as-undamaged t light accepted)
+two-flips ex n flips lanes room outs flagBuffers t = (flags, λ two. as-undamaged t (light two))
   where
-    light : (f : ℕ) → f < n → (i : ℕ) → i < 384 → distance (arrived (flips f) i) 0 ≤ 2
-    light f h i l =
+    light : ((p w : ℕ) → p < 32 → w < 12 * n → distance (arrived (flips (w / 12)) (32 * (w % 12) + p)) 0 ≤ 2)
+        → (f : ℕ) → f < n → (i : ℕ) → i < 384 → distance (arrived (flips f) i) 0 ≤ 2
+    light two f h i l =
         let frame : (12 * f + i / 32) / 12 ≡ f = omega arith in
         let word : 32 * ((12 * f + i / 32) % 12) + i % 32 ≡ i = omega arith in
         subst (λ (d : ℕ). d ≤ 2) (ap₂ (λ (g k : ℕ). distance (arrived (flips g) k) 0) frame word) (two (i % 32) (12 * f + i / 32) (omega arith) (omega arith))
 
-    flags : (f k p : ℕ) → f < n → t .numbers f ≡ 0 → k < 12 → p < 32 → getD (t .flagBytes f) (32 * k + p) 0 ≡ distance (arrived (flips ((12 * f + k) / 12)) (32 * ((12 * f + k) % 12) + p)) 0
-    flags f k p h e hk hp =
+    flags : (f k p : ℕ) → f < n → t .numbers f ≡ 0 → k < 12 → p < 32 → distance (arrived (flips ((12 * f + k) / 12)) (32 * ((12 * f + k) % 12) + p)) 0 ≤ 2
+        → getD (t .flagBytes f) (32 * k + p) 0 ≡ distance (arrived (flips ((12 * f + k) / 12)) (32 * ((12 * f + k) % 12) + p)) 0
+    flags f k p h e hk hp two =
         let i = 32 * k + p in
-        let l : i < 384 = omega arith in
         let frame : f ≡ (12 * f + k) / 12 = omega arith in
         let word : i ≡ 32 * ((12 * f + k) % 12) + p = omega arith in
-        ap (λ (g : List ℕ). getD g i 0) (flags-of-flips t f h e) ∙ flag-at (flips f) i l
-        ∙ mends-two 0 (arrived (flips f) i) nothing (arrived-lt (flips f) i) (light f h i l) .1 ∙ ap₂ (λ (g j : ℕ). distance (arrived (flips g) j) 0) frame word
+        let same : distance (arrived (flips f) i) 0 ≡ distance (arrived (flips ((12 * f + k) / 12)) (32 * ((12 * f + k) % 12) + p)) 0 =
+        ap₂ (λ (g j : ℕ). distance (arrived (flips g) j) 0) frame word in
+        ap (λ (g : List ℕ). getD g i 0) (flags-of-flips t f h e) ∙ flag-at (flips f) i (omega arith)
+        ∙ mends-two 0 (arrived (flips f) i) nothing (arrived-lt (flips f) i) (subst (λ (d : ℕ). d ≤ 2) (sym same) two) .1 ∙ same

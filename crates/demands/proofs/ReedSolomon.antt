@@ -1,4 +1,4 @@
--- `ReedSolomonBound` and the four pairs: a wrong symbol goes to the word that carries it, which more than two flips hit, and no two of a codeword to one.
+-- `CarriesExactly`; and `ReedSolomonBound` with the four pairs: a wrong symbol goes to the word that carries it, which more than two flips hit, and no two of a codeword to one.
 -- Assumes nothing.
 use mathlib.Core.Path.{_≡_, refl, sym, ap, ap₂, _∙_, subst}
 use mathlib.Core.Logic.{_≢_, ⊎-elim}
@@ -13,16 +13,18 @@ use borrow.Author.Tests.{ltb-true, eqb-true, eqb-false, not-true, lt-ltb, eq-eqb
 use Rattle.bits.specs.Bits.{bitOf}
 use Rattle.bits.proofs.Count.{count-some, count-pos}
 use Rattle.bch.proofs.Theorems.{two-vanish}
-use Rattle.lanes.specs.Permutation.{Lanes, Places, named}
-use Rattle.lanes.specs.Stream.{streamBit, interleaved, deinterleaved}
-use Rattle.lanes.proofs.Rows.{lt-or-le}
-use Rattle.lanes.proofs.Return.{across, across-lt, carried, fetched}
+use Rattle.lanes.specs.Permutation.{Lanes, Places, named, permuted}
+use Rattle.lanes.specs.Stream.{streamBit, delayed, interleaved, deinterleaved}
+use Rattle.lanes.proofs.Rows.{lt-or-le, delayed-early, delayed-at}
+use Rattle.lanes.proofs.Return.{across, across-lt, across-place, permuted-across, carried, fetched}
 use Rattle.symbols.specs.Frame.{arrived}
 use Rattle.symbols.proofs.Return.{arrived-lt}
 use Rattle.framing.specs.Receive.{broughtLanes}
-use Rattle.framing.proofs.Received.{passed, brought-bit}
+use Rattle.framing.specs.Call.{base}
+use Rattle.framing.proofs.Stream.{block-rule}
+use Rattle.framing.proofs.Received.{passedOn, brought-bit}
 use Rattle.demands.specs.Trial.{Trial, Accepted, flipsIn}
-use Rattle.demands.specs.ReedSolomon.{Labels, Labelled, carries, heavyWords, wrongSymbol, wrongSymbols, ReedSolomonBound, Bounded, FourPairs}
+use Rattle.demands.specs.ReedSolomon.{Labels, Labelled, carries, Has, CarriesExactly, heavyWords, wrongSymbol, wrongSymbols, ReedSolomonBound, Bounded, FourPairs}
 use Rattle.demands.proofs.Trial.{differs-by}
 use Rattle.demands.proofs.Totals.{both, left, right, total-inject}
 use Rattle.demands.proofs.Labels.{slot, spans-label, one-a-word}
@@ -46,15 +48,101 @@ carries-its ex label p s h =
     (eq-eqb _ _
     (ap₂ (interleaved ex x) (ap (across ex p) (sym symbol)) (sym (placed s 0 (omega arith))) ∙ carried ex x p i h ∙ ap (λ (t : ℕ). suc (label p t)) symbol)))
 
+same-place : (u r : ℕ) → 72 * r ≤ u → (u - 72 * r) % 4 ≡ u % 4
+same-place u r l = omega arith
+
+-- symbol u of an interleaved lane, where it is no fill, is a symbol of the lanes
+slot-bit : (ex : Places) (x : Lanes) (p u b : ℕ) → b < 10 → 72 * (u / 4 % 3) ≤ u
+    → interleaved ex x p (10 * u + b) ≡ x (across ex p u) (10 * (u - 72 * (u / 4 % 3)) + b)
+unfolding interleaved
+slot-bit ex x p u b h l =
+    let i = 10 * u + b in
+    let r = u / 4 % 3 in
+    let j = 10 * (u - 72 * r) + b in
+    let row : i / 40 ≡ u / 4 = omega arith in
+    let d : i ≡ j + 40 * (18 * r) = omega arith in
+    let symbol : j / 10 ≡ u - 72 * r = omega arith in
+    ap (λ (m : ℕ). delayed (40 * (18 * (m % 3))) (permuted ex x p) i) row ∙ delayed-at (40 * (18 * r)) (permuted ex x p) i j d
+    ∙ permuted-across ex x p j ∙ ap (λ (q : ℕ). x q j) (across-place ex p (j / 10) u (ap (λ (m : ℕ). m % 4) symbol ∙ same-place u r l))
+
+slot-fill : (ex : Places) (x : Lanes) (p u b : ℕ) → b < 10 → u < 72 * (u / 4 % 3) → interleaved ex x p (10 * u + b) ≡ 0
+unfolding interleaved
+slot-fill ex x p u b h l =
+    let i = 10 * u + b in
+    let row : i / 40 ≡ u / 4 = omega arith in
+    ap (λ (m : ℕ). delayed (40 * (18 * (m % 3))) (permuted ex x p) i) row ∙ delayed-early (40 * (18 * (u / 4 % 3))) (permuted ex x p) i (omega arith)
+
+abbrev marks : Labels → Lanes
+marks label lane i = suc (label lane (i / 10))
+
+-- a word at whose bit j the label of c stands has the symbol that stands there
+module _ (ex : Places) (n : ℕ) (label : Labels) (c p w j : ℕ) (hp : p < 32) (hw : w < 12 * n) (hj : j < 110) where
+  u : ℕ
+  u = 11 * w + j / 10
+
+  abbrev Found : Type 0
+  Found = (k : ℕ) × (q : ℕ) × (s : ℕ) × (k < 11) × (q < 32) × (s < 132 * n) × (label q s ≡ c) × Has ex n p w k q s
+
+  mark : interleaved ex (marks label) p (110 * w + j) ≡ suc c → interleaved ex (marks label) p (10 * u + j % 10) ≡ suc c
+  unfolding u
+  mark e = let here : 10 * (11 * w + j / 10) + j % 10 ≡ 110 * w + j = omega arith in ap (interleaved ex (marks label) p) here ∙ e
+
+  filled : interleaved ex (marks label) p (110 * w + j) ≡ suc c → u < 72 * (u / 4 % 3) → Found
+  filled e l = let z : 0 ≡ suc c = sym (slot-fill ex (marks label) p u (j % 10) (omega arith) l) ∙ mark e in absurd (omega arith)
+
+  found : interleaved ex (marks label) p (110 * w + j) ≡ suc c → 72 * (u / 4 % 3) ≤ u → Found
+  unfolding u
+  found e l =
+      let s = u - 72 * (u / 4 % 3) in
+      let q = across ex p u in
+      let symbol : (10 * s + j % 10) / 10 ≡ s = omega arith in
+      let is : suc (label q s) ≡ suc c = ap (λ (t : ℕ). suc (label q t)) (sym symbol) ∙ sym (slot-bit ex (marks label) p u (j % 10) (omega arith) l) ∙ mark e in (
+        j / 10,
+        q,
+        s,
+        omega arith,
+        across-lt ex p u hp,
+        omega arith,
+        omega arith,
+        λ lanes room numbers frames stores S b hb.
+            let here : 110 * w + (10 * (j / 10) + b) ≡ 10 * u + b = omega arith in
+            block-rule ex n lanes room numbers frames stores S .2 p w (10 * (j / 10) + b) hp hw (omega arith)
+            ∙ ap (interleaved ex (streamBit lanes) p) here ∙ slot-bit ex (streamBit lanes) p u b hb l,
+      )
+
+pub carries-exactly : CarriesExactly
+unfolding carries
+carries-exactly ex n label = (
+  λ c p w hp hw y.
+      let r = count-some (λ q. eqb (interleaved ex (marks label) p (110 * w + q)) (suc c)) 110 (ltb-true 0 _ y) in
+      let e = eqb-true (interleaved ex (marks label) p (110 * w + r .0)) (suc c) (r .2) in
+      ⊎-elim (filled ex n label c p w (r .0) hp hw (r .1) e) (found ex n label c p w (r .0) hp hw (r .1) e)
+      (lt-or-le (u ex n label c p w (r .0) hp hw (r .1)) (72 * (u ex n label c p w (r .0) hp hw (r .1) / 4 % 3))),
+  λ q s hq hs. (
+    slot s % 11,
+    across ex q s,
+    slot s / 11,
+    omega arith,
+    across-lt ex q s hq,
+    omega arith,
+    carries-its ex label q s hq,
+    λ lanes room numbers frames stores S b hb.
+        let i = 10 * s + b in
+        let symbol : i / 10 ≡ s = omega arith in
+        block-rule ex n lanes room numbers frames stores S .2 (across ex q s) (slot s / 11) (10 * (slot s % 11) + b) (across-lt ex q s hq) (omega arith) (omega arith)
+        ∙ ap₂ (interleaved ex (streamBit lanes)) (ap (across ex q) (sym symbol)) (sym (placed s b hb)) ∙ carried ex (streamBit lanes) q i hq,
+  ),
+)
+
 -- what at most two flips leave of a word is nothing
 left-nothing : (flips : ℕ → List ℕ) (q w k : ℕ) → q < 32 → k < 110 → flipsIn flips q w ≤ 2 → streamBit (λ f. broughtLanes (flips f)) q (110 * w + k) ≡ 0
-unfolding flipsIn passed bitOf
+unfolding flipsIn passedOn bitOf
 left-nothing flips q w k hq hk two =
     let i = 110 * w + k in
     let e = arrived (flips (w / 12)) (32 * (w % 12) + q) in
     let frame : i / 1320 ≡ w / 12 = omega arith in
     let word : 32 * (i % 1320 / 110) + q ≡ 32 * (w % 12) + q = omega arith in
-    brought-bit flips q i hq ∙ ap₂ (λ (f j : ℕ). bitOf 126 (passed (arrived (flips f) j)) (i % 110)) frame word
+    brought-bit flips q i hq ∙ ap₂ (λ (f j : ℕ). bitOf 126 (passedOn (arrived (flips f) j)) (i % 110)) frame word
     ∙ ap (λ (v : ℕ). bitOf 126 v (i % 110)) (two-vanish e (arrived-lt (flips (w / 12)) (32 * (w % 12) + q)) two) ∙ ap (λ (v : ℕ). v % 2) (zero-div (2 ^ (126 - 1 - i % 110)))
 
 pub differ-none : (x : ℕ) → differ x 0 ≡ x
@@ -128,7 +216,7 @@ yes-no e = false≢true (sym e)
 pub four-pairs : FourPairs
 unfolding named
 four-pairs = (
-  bounded (named 12) false≢true false≢true,
+  bounded base false≢true false≢true,
   bounded (named 3) yes-no yes-no,
   bounded (named 9) yes-no false≢true,
   bounded (named 6) false≢true yes-no,

@@ -1,4 +1,4 @@
--- `Return` and `OneFrame`: what is sent are code words, so that they are passed on as they are, and the stages undo each other.
+-- `Return` and `OneFrame`: what is sent are code words, so that they are passedOn on as they are, and the stages undo each other.
 -- Assumes nothing.
 use mathlib.Core.Path.{_≡_, sym, ap, ap₂, _∙_, subst}
 use mathlib.Core.Bool.{Bool, true, cond}
@@ -25,7 +25,7 @@ use Rattle.framing.specs.Stream.{Sent, Received}
 use Rattle.framing.proofs.Sending.{frame-length}
 use Rattle.framing.proofs.Receiving.{all-lengths, lanes-length, lanes-bytes, flags-length}
 use Rattle.framing.proofs.Stream.{block-rule, frame-sent, sent-locks}
-use Rattle.framing.proofs.Received.{passed, flag-at, brought-bit, store-whole, call-done, back-stream}
+use Rattle.framing.proofs.Received.{passedOn, flag-at, brought-bit, store-whole, call-done, back-stream}
 use Rattle.demands.specs.Return.{Return, OneFrame}
 use Rattle.demands.proofs.Hit.{code-passed}
 
@@ -73,6 +73,9 @@ module _ (ex : Places) (n : ℕ) (lanes room : ℕ → List ℕ) (sentNumbers : 
           back-stream ex n frames outs flagBuffers numbers stores back flagBytes R accepted p i hp hi
           ∙ deinterleaved-cong ex (streamBit (λ f. broughtLanes (frames f))) (interleaved ex (streamBit lanes)) p i hp (λ q j hq hj. brought-sent q j hq (omega arith))
 
+      clean-length : (f : ℕ) → f < n → length (back f) ≡ 5280
+      clean-length f h = ap length (call-done ex n frames outs flagBuffers numbers stores back flagBytes R f h (accepted f h) .1) ∙ lanes-length ex (frames f) (stores f)
+
       clean-flags : (f : ℕ) → f < n → flagBytes f ≡ replicate 384 0
       clean-flags f h =
           call-done ex n frames outs flagBuffers numbers stores back flagBytes R f h (accepted f h) .2
@@ -86,7 +89,10 @@ module _ (ex : Places) (n : ℕ) (lanes room : ℕ → List ℕ) (sentNumbers : 
 pub return : Return
 return ex n lanes sentNumbers numbers back flagBytes U = (
   λ f h. (sent-done ex n lanes (U .room) sentNumbers (U .frames) (U .sentStores) (U .sent) f h, accepted f h),
-  clean-flags ex n lanes (U .room) sentNumbers (U .frames) (U .sentStores) (U .sent) (U .outs) (U .flagBuffers) numbers (U .stores) back flagBytes (U .received) accepted,
+  λ f h. (
+    clean-length ex n lanes (U .room) sentNumbers (U .frames) (U .sentStores) (U .sent) (U .outs) (U .flagBuffers) numbers (U .stores) back flagBytes (U .received) accepted f h,
+    clean-flags ex n lanes (U .room) sentNumbers (U .frames) (U .sentStores) (U .sent) (U .outs) (U .flagBuffers) numbers (U .stores) back flagBytes (U .received) accepted f h,
+  ),
   λ p i hp early hi. came p i hp hi ∙ back-early ex (streamBit lanes) p i early,
   λ p i hp hi. came p (i + 1440) hp hi ∙ back-late ex (streamBit lanes) p i hp,
 )
@@ -110,7 +116,7 @@ one-frame ex lanes sentNumbers numbers back flagBytes U =
     is = call-done ex 1 (U .frames) (U .outs) (U .flagBuffers) numbers (U .stores) back flagBytes (U .received) 0 (omega arith) (return ex 1 lanes sentNumbers numbers back flagBytes U .0 0 (omega arith) .1) .1
 
     whole : length (back 0) ≡ 5280
-    whole = ap length is ∙ lanes-length ex (U .frames 0) (U .stores 0)
+    whole = return ex 1 lanes sentNumbers numbers back flagBytes U .1 0 (omega arith) .0
 
     bytes : Bytes (back 0)
     bytes = subst Bytes (sym is) (lanes-bytes ex (U .frames 0) (U .stores 0))

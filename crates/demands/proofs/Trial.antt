@@ -1,10 +1,12 @@
--- A trial, from its calls' outcomes: what comes back differs from the undamaged by what the flips alone would bring. `FlipsCounted` and `TrialsExist`.
+-- A trial, from its calls' outcomes: what comes back differs from the undamaged by what the flips alone would bring. `RefusedExactly`,
+-- `FlipsCounted`, `TrialsExist` and `UndamagedExist`.
 -- Assumes nothing.
 use mathlib.Core.Path.{_≡_, refl, sym, ap, _∙_}
+use mathlib.Core.Bool.{Bool, cond}
 use mathlib.Core.List.{List}
 use Prim.Native.Nat.{ℕ, zero, suc, _+_, _*_, _/_, _%_, _<_}
 use native.Mathlib.Omega.{arith}
-use lib.ListN.{length, getD, replicate}
+use lib.ListN.{length, getD, replicate, length-replicate}
 use lib.Bits.{differ}
 use Rattle.bch.specs.Code.{CodeWord}
 use Rattle.lanes.specs.Permutation.{Lanes, Places}
@@ -13,15 +15,16 @@ use Rattle.lanes.specs.Stream.{streamBit, deinterleaved}
 use Rattle.lanes.proofs.Return.{deinterleaved-cong, deinterleaved-zip}
 use Rattle.symbols.specs.Frame.{arrived}
 use Rattle.symbols.specs.Pilots.{pilots}
-use Rattle.framing.specs.Call.{after}
+use Rattle.framing.specs.Call.{unless, after}
 use Rattle.framing.specs.Send.{sentFrame, sendNumber}
 use Rattle.framing.specs.Receive.{broughtLanes, receivedLanes, receivedStore, receivedFlags, receiveNumber}
 use Rattle.framing.specs.Stream.{Sent, Received}
-use Rattle.framing.proofs.Receiving.{lent}
+use Rattle.framing.proofs.Receiving.{whole, lent}
 use Rattle.framing.proofs.Stream.{frame-sent, sent-pilot}
-use Rattle.framing.proofs.Received.{call-done, back-stream}
-use Rattle.demands.specs.Trial.{hit, Trial, Accepted, flipsIn, FlipsCounted, TrialsExist}
-use Rattle.demands.proofs.Hit.{hit-distance, flags-hit, brought-hit}
+use Rattle.framing.proofs.Received.{store-whole, call-done, back-stream}
+use Rattle.demands.specs.Trial.{hit, Trial, Accepted, flipsIn, FlipsCounted, RefusedExactly, TrialsExist}
+use Rattle.demands.specs.Return.{UndamagedExist}
+use Rattle.demands.proofs.Hit.{hit-length, hit-locks, hit-distance, flags-hit, brought-hit}
 use Rattle.demands.proofs.Return.{sent-words, clean-done}
 
 module _ {ex : Places} {n : ℕ} {flips lanes room outs flagBuffers : ℕ → List ℕ} (t : Trial ex n flips lanes room outs flagBuffers) where
@@ -58,6 +61,13 @@ module _ {ex : Places} {n : ℕ} {flips lanes room outs flagBuffers : ℕ → Li
         ∙ deinterleaved-zip ex differ refl clean left p i
         ∙ ap (λ (b : ℕ). differ b (deinterleaved ex left p i))
         (sym (back-stream ex n (t .frames) outs flagBuffers (t .cleanNumbers) (t .cleanStores) (t .cleanBack) (t .cleanFlags) (t .undamaged) clean-accepted p i hp hi))
+
+pub refused-exactly : RefusedExactly
+refused-exactly ex n flips lanes room outs flagBuffers t f h =
+    t .received .call f h .number
+    ∙ whole (hit (t .frames f) (flips f)) (t .stores f) (outs f) (flagBuffers f) (hit-length (t .frames f) (flips f))
+    (store-whole ex n (λ f. hit (t .frames f) (flips f)) outs flagBuffers (t .numbers) (t .stores) (t .back) (t .flagBytes) (t .received) f (omega arith))
+    ∙ ap (λ (b : Bool). unless 5280 (outs f) 3 (unless 384 (flagBuffers f) 4 (cond b 0 5))) (hit-locks (t .frames f) (flips f) (λ k l. frame-pilots t f k h l))
 
 pub flips-counted : FlipsCounted
 unfolding flipsIn
@@ -109,3 +119,26 @@ trials-exist ex n flips lanes room outs flagBuffers whole =
       cleanFlags = _;
       undamaged = receives ex n flips lanes room outs flagBuffers (sentFrames ex n flips lanes room outs flagBuffers);
     }
+
+-- without flips, into outputs and flags of the right lengths
+pub undamaged-exist : UndamagedExist
+undamaged-exist ex n lanes whole = (
+  _,
+  _,
+  _,
+  _,
+  record {
+    room = λ _. replicate 6144 0;
+    frames = _;
+    sentStores = _;
+    sent = t .sent;
+    outs = λ _. replicate 5280 0;
+    flagBuffers = λ _. replicate 384 0;
+    lent = λ f h. (length-replicate {A = ℕ} 5280 0, length-replicate {A = ℕ} 384 0);
+    stores = _;
+    received = t .undamaged;
+  },
+)
+  where
+    t : Trial ex n (λ _. replicate 6144 0) lanes (λ _. replicate 6144 0) (λ _. replicate 5280 0) (λ _. replicate 384 0)
+    t = trials-exist ex n (λ _. replicate 6144 0) lanes (λ _. replicate 6144 0) (λ _. replicate 5280 0) (λ _. replicate 384 0) (λ f h. (whole f h, length-replicate {A = ℕ} 6144 0))

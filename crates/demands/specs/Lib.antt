@@ -2,3 +2,4 @@ pub mod Return
 pub mod Trial
 pub mod OneForAll
 pub mod ReedSolomon
+pub mod Demands

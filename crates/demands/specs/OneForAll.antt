@@ -13,8 +13,8 @@ use Rattle.demands.specs.Trial.{Trial, Accepted, flipsIn}
 abbrev pub Wrong : {ex : Places} {n : ℕ} {flips lanes room outs flagBuffers : ℕ → List ℕ} → Trial ex n flips lanes room outs flagBuffers → ℕ → ℕ → Type 0
 Wrong t p i = streamBit (t .back) p i ≢ streamBit (t .cleanBack) p i
 
--- any two lane streams of equal length, the same flips, and call by call buffers of the same lengths, right or wrong: the same refusals and word flags
--- (a refused frame gives none) and, if no frame was refused, the same places of wrong bits
+-- any two lane streams of equal length, the same flips, and call by call outputs and flags of the same lengths, right or wrong: the same refusals and word
+-- flags (a refused frame gives none) and, if no frame was refused, the same places of wrong bits
 abbrev pub OneForAll : Type 0
 OneForAll =
     (ex : Places) (n : ℕ) (flips : ℕ → List ℕ)
@@ -25,10 +25,11 @@ OneForAll =
     × ((f : ℕ) → f < n → a .numbers f ≡ 0 → a .flagBytes f ≡ b .flagBytes f)
     × (Accepted a → (p i : ℕ) → p < 32 → i < 1320 * n → Wrong a p i ↔ Wrong b p i)
 
--- at most two flips in every word: the flags say how many, 0, 1 or 2, and if no frame was refused, the lanes come back as if undamaged
+-- at most two flips in a word of a frame that was not refused: its flag says how many, 0, 1 or 2. In every word: if no frame was refused, the lanes come
+-- back as if undamaged
 abbrev pub TwoFlips : Type 0
 TwoFlips =
     (ex : Places) (n : ℕ) (flips lanes room outs flagBuffers : ℕ → List ℕ) (t : Trial ex n flips lanes room outs flagBuffers)
-    → ((p w : ℕ) → p < 32 → w < 12 * n → flipsIn flips p w ≤ 2)
-    → ((f k p : ℕ) → f < n → t .numbers f ≡ 0 → k < 12 → p < 32 → getD (t .flagBytes f) (32 * k + p) 0 ≡ flipsIn flips p (12 * f + k))
-    × (Accepted t → (f : ℕ) → f < n → t .back f ≡ t .cleanBack f)
+    → ((f k p : ℕ) → f < n → t .numbers f ≡ 0 → k < 12 → p < 32 → flipsIn flips p (12 * f + k) ≤ 2
+    → getD (t .flagBytes f) (32 * k + p) 0 ≡ flipsIn flips p (12 * f + k))
+    × (((p w : ℕ) → p < 32 → w < 12 * n → flipsIn flips p w ≤ 2) → Accepted t → (f : ℕ) → f < n → t .back f ≡ t .cleanBack f)

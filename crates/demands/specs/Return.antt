@@ -8,7 +8,7 @@ use Rattle.lanes.specs.Permutation.{Places}
 use Rattle.lanes.specs.Stream.{streamBit}
 use Rattle.framing.specs.Stream.{Sent, Received}
 
--- n frames sent, and received as they were sent, with room for the lanes and the flags of each
+-- n frames sent, and received as they were sent, into outputs and flags of the right lengths
 pub record Undamaged (ex : Places) (n : ℕ) (lanes : ℕ → List ℕ) (sentNumbers numbers : ℕ → ℕ) (back flagBytes : ℕ → List ℕ) : Type 0 where
   pub room : ℕ → List ℕ
   pub frames : ℕ → List ℕ
@@ -20,15 +20,21 @@ pub record Undamaged (ex : Places) (n : ℕ) (lanes : ℕ → List ℕ) (sentNum
   pub stores : ℕ → List ℕ
   pub received : Received ex n frames outs flagBuffers numbers stores back flagBytes
 
--- no call is refused, every flag is 0, the first 36 blocks of every lane (1,440 bits) are zeros, and bit i of a lane comes back as its bit i + 1,440
+-- no call is refused, every frame's lanes come back whole and every flag is 0, the first 36 blocks of every lane (1,440 bits) are zeros, and bit i of a lane comes back as its bit i + 1,440
 abbrev pub Return : Type 0
 Return =
     (ex : Places) (n : ℕ) (lanes : ℕ → List ℕ) (sentNumbers numbers : ℕ → ℕ) (back flagBytes : ℕ → List ℕ)
     → Undamaged ex n lanes sentNumbers numbers back flagBytes
     → ((f : ℕ) → f < n → (sentNumbers f ≡ 0) × (numbers f ≡ 0))
-    × ((f : ℕ) → f < n → flagBytes f ≡ replicate 384 0)
+    × ((f : ℕ) → f < n → (length (back f) ≡ 5280) × (flagBytes f ≡ replicate 384 0))
     × ((p i : ℕ) → p < 32 → i < 1440 → i < 1320 * n → streamBit back p i ≡ 0)
     × ((p i : ℕ) → p < 32 → i + 1440 < 1320 * n → streamBit back p (i + 1440) ≡ streamBit lanes p i)
+
+-- such a run exists for any whole lanes
+abbrev pub UndamagedExist : Type 0
+UndamagedExist =
+    (ex : Places) (n : ℕ) (lanes : ℕ → List ℕ) → ((f : ℕ) → f < n → length (lanes f) ≡ 5280)
+    → (sentNumbers : ℕ → ℕ) × (numbers : ℕ → ℕ) × (back : ℕ → List ℕ) × (flagBytes : ℕ → List ℕ) × Undamaged ex n lanes sentNumbers numbers back flagBytes
 
 -- a stream of one frame comes back as 33 blocks of zeros in every lane
 abbrev pub OneFrame : Type 0

@@ -1,21 +1,26 @@
 -- A trial of demand 3: lanes sent from a fresh store, bits of the sent frames flipped, and what a fresh receiver makes of the frames.
 -- Assumes nothing.
 use mathlib.Core.Path.{_≡_}
+use mathlib.Core.Bool.{not, cond}
 use mathlib.Core.List.{List}
 use Prim.Native.Nat.{ℕ, _+_, _*_, _/_, _%_, _<_}
+use lib.Dec.{eqb, ltb}
 use lib.ListN.{length, getD}
 use lib.Bits.{bitXor}
-use Rattle.bits.specs.Bits.{tabulate}
+use Rattle.bits.specs.Bits.{tabulate, count}
 use Rattle.bch.specs.Code.{distance}
 use Rattle.lanes.specs.Permutation.{Places}
 use Rattle.symbols.specs.Frame.{arrived}
+use Rattle.symbols.specs.Pilots.{lockLimit}
+use Rattle.framing.specs.Call.{unless}
 use Rattle.framing.specs.Stream.{Sent, Received}
 
--- a frame with bits flipped: those that are set in the flips
+-- a frame with bits flipped, those that are set in the flips, byte by byte; flips above 255 would make bytes that no capture has, and are not ruled out
 unfoldable pub hit : List ℕ → List ℕ → List ℕ
 hit frame flips = tabulate 6144 (λ t. bitXor (getD frame t 0) (getD flips t 0))
 
--- n frames of lanes are sent, hit by the flips, and received with the output and the flags lent to each call; and received undamaged, with the same
+-- n frames of whole lanes are sent, each with room for its frame; hit by the flips, and received with the output and the flags lent to each call, of any
+-- lengths; and received undamaged, with the same
 pub record Trial (ex : Places) (n : ℕ) (flips lanes room outs flagBuffers : ℕ → List ℕ) : Type 0 where
   pub sentNumbers : ℕ → ℕ
   pub frames : ℕ → List ℕ
@@ -47,7 +52,17 @@ FlipsCounted =
     → (p w : ℕ) → p < 32 → w < 12 * n
     → flipsIn flips p w ≡ distance (arrived (hit (t .frames (w / 12)) (flips (w / 12))) (32 * (w % 12) + p)) (arrived (t .frames (w / 12)) (32 * (w % 12) + p))
 
--- there is a trial for any whole lanes, any flips and any buffers
+-- how many of the 96 pilot bytes are hit
+unfoldable pub hitPilots : List ℕ → ℕ
+hitPilots flips = count (λ k. not (eqb (getD flips (64 * k) 0) 0)) 96
+
+-- what a call answers: 3 and 4 for a wrong length of the output and of the flags, 5 where 25 or more pilots are hit; 1 and 2 cannot occur
+abbrev pub RefusedExactly : Type 0
+RefusedExactly =
+    (ex : Places) (n : ℕ) (flips lanes room outs flagBuffers : ℕ → List ℕ) (t : Trial ex n flips lanes room outs flagBuffers) (f : ℕ) → f < n
+    → t .numbers f ≡ unless 5280 (outs f) 3 (unless 384 (flagBuffers f) 4 (cond (ltb (hitPilots (flips f)) lockLimit) 0 5))
+
+-- there is a trial for any whole lanes with room for their frames, any flips, and any outputs and flags
 abbrev pub TrialsExist : Type 0
 TrialsExist =
     (ex : Places) (n : ℕ) (flips lanes room outs flagBuffers : ℕ → List ℕ)

@@ -1,4 +1,4 @@
--- A run of receiving, from its calls' outcomes: what its numbers hang on, and the stream that comes back if none is refused.
+-- A run of receiving, from its calls' outcomes: its stores are whole, and what comes back if no frame is refused.
 -- Assumes nothing.
 use mathlib.Core.Path.{_≡_, sym, ap, ap₂, _∙_, subst}
 use mathlib.Core.Bool.{Bool, true, false, cond}
@@ -21,7 +21,6 @@ use Rattle.lanes.specs.Words.{wordLanes}
 use Rattle.lanes.specs.Stream.{streamBit, deinterleaved}
 use Rattle.lanes.proofs.Stream.{unwoven-stream}
 use Rattle.symbols.specs.Frame.{arrived, wordsOf}
-use Rattle.symbols.specs.Pilots.{locks}
 use Rattle.symbols.proofs.Return.{arrived-lt}
 use Rattle.framing.specs.Receive.{broughtLanes, receivedLanes, receivedStore, receivedFlags, receiveNumber}
 use Rattle.framing.specs.Stream.{Received}
@@ -29,19 +28,19 @@ use Rattle.framing.proofs.Receiving.{store-length, done}
 
 -- ---- one frame, word by word
 
--- what a word is passed on as
-unfoldable pub passed : ℕ → ℕ
-passed w = mended w (mend w)
+-- what a word is passedOn on as
+unfoldable pub passedOn : ℕ → ℕ
+passedOn w = mended w (mend w)
 
 module _ (f : List ℕ) (i : ℕ) (h : i < 384) where
   arrived-at : wordAt (wordsOf f) i ≡ arrived f i
   unfolding wordsOf
   arrived-at = row-at 384 (arrived f) i h (arrived-lt f i)
 
-  pub passed-at : wordAt (mendedFrame (wordsOf f)) i ≡ passed (arrived f i)
-  unfolding mendedFrame passed
+  pub passed-at : wordAt (mendedFrame (wordsOf f)) i ≡ passedOn (arrived f i)
+  unfolding mendedFrame passedOn
   passed-at =
-      let small : passed (wordAt (wordsOf f) i) < 2 ^ 126 = mended-lt (wordAt (wordsOf f) i) (subst (λ (w : ℕ). w < 2 ^ 126) (sym arrived-at) (arrived-lt f i)) in
+      let small : passedOn (wordAt (wordsOf f) i) < 2 ^ 126 = mended-lt (wordAt (wordsOf f) i) (subst (λ (w : ℕ). w < 2 ^ 126) (sym arrived-at) (arrived-lt f i)) in
       row-at 384 (λ i. mended (wordAt (wordsOf f) i) (mend (wordAt (wordsOf f) i))) i h small ∙ ap (λ (w : ℕ). mended w (mend w)) arrived-at
 
   pub flag-at : getD (receivedFlags f) i 0 ≡ flagOf (mend (arrived f i))
@@ -50,7 +49,7 @@ module _ (f : List ℕ) (i : ℕ) (h : i < 384) where
 
 -- bit i of lane p of the lanes that frames bring, by the word that holds it
 pub brought-bit : (frames : ℕ → List ℕ) (p i : ℕ) → p < 32
-    → streamBit (λ f. broughtLanes (frames f)) p i ≡ bitOf 126 (passed (arrived (frames (i / 1320)) (32 * (i % 1320 / 110) + p))) (i % 110)
+    → streamBit (λ f. broughtLanes (frames f)) p i ≡ bitOf 126 (passedOn (arrived (frames (i / 1320)) (32 * (i % 1320 / 110) + p))) (i % 110)
 unfolding streamBit broughtLanes wordLanes
 brought-bit frames p i h =
     let f = frames (i / 1320) in
@@ -62,14 +61,6 @@ brought-bit frames p i h =
     bytes-bit 5280 (λ j. bitOf 126 (wordAt s (32 * (j % 1320 / 110) + j / 1320)) (j % 1320 % 110))
     (λ j _. bit-lt 126 (wordAt s (32 * (j % 1320 / 110) + j / 1320)) (j % 1320 % 110)) j (omega arith)
     ∙ ap₂ (λ (a b : ℕ). bitOf 126 (wordAt s a) b) word bit ∙ ap (λ (w : ℕ). bitOf 126 w (i % 110)) (passed-at f k (omega arith))
-
--- ---- the number hangs on the lengths and on the lock
-
-pub number-cong :
-    (f s o g f′ s′ o′ g′ : List ℕ) → length f ≡ length f′ → length s ≡ length s′ → length o ≡ length o′ → length g ≡ length g′ → locks f 0 ≡ locks f′ 0
-    → receiveNumber f s o g ≡ receiveNumber f′ s′ o′ g′
-unfolding receiveNumber
-number-cong f s o g f′ s′ o′ g′ ef es eo eg l = rw (ef, es, eo, eg, l)
 
 -- ---- a run
 

@@ -12,6 +12,7 @@ use Rattle.lanes.specs.Interleaver.{receiver, woven, storeNext, unwovenFrame, u
 use Rattle.lanes.proofs.Bytewise.{frame-bytes, permuted-lt, woven-lt, lanes-lt}
 use Rattle.bch.specs.Word.{flagsOf}
 use Rattle.symbols.specs.Pilots.{locks}
+use Rattle.framing.specs.Call.{unless}
 use Rattle.framing.specs.Receive.{broughtLanes, receivedLanes, receivedStore, receivedFlags, receiveNumber, Receives}
 use Rattle.framing.proofs.Calls.{passed, failed, passes, left, written}
 
@@ -54,10 +55,14 @@ module _ (f s o g : List ℕ) where
   unfolding receiveNumber
   short-flags h h′ h″ h‴ = passed 6144 f _ _ h ∙ passed 2880 s _ _ h′ ∙ passed 5280 o _ _ h″ ∙ failed 384 g _ _ h‴
 
-  -- with the right lengths, lock decides
-  pub all-lengths : length f ≡ 6144 → length s ≡ 2880 → length o ≡ 5280 → length g ≡ 384 → receiveNumber f s o g ≡ cond (locks f 0) 0 5
+  -- with a whole frame and a whole store, the other two and the lock decide
+  pub whole : length f ≡ 6144 → length s ≡ 2880 → receiveNumber f s o g ≡ unless 5280 o 3 (unless 384 g 4 (cond (locks f 0) 0 5))
   unfolding receiveNumber
-  all-lengths h h′ h″ h‴ = passed 6144 f _ _ h ∙ passed 2880 s _ _ h′ ∙ passed 5280 o _ _ h″ ∙ passed 384 g _ _ h‴
+  whole h h′ = passed 6144 f _ _ h ∙ passed 2880 s _ _ h′
+
+  -- with the right lengths, the lock
+  pub all-lengths : length f ≡ 6144 → length s ≡ 2880 → length o ≡ 5280 → length g ≡ 384 → receiveNumber f s o g ≡ cond (locks f 0) 0 5
+  all-lengths h h′ h″ h‴ = whole h h′ ∙ passed 5280 o _ _ h″ ∙ passed 384 g _ _ h‴
 
   -- and an answer of 0 says that the lengths were right
   pub lent : receiveNumber f s o g ≡ 0 → (length o ≡ 5280) × (length g ≡ 384)

@@ -36,7 +36,7 @@ module _ (ex : Places) where
       go true = omega arith
       go false = refl
 
-  permuted-across : (x : Lanes) (p i : ℕ) → permuted ex x p i ≡ x (across ex p (i / 10)) i
+  pub permuted-across : (x : Lanes) (p i : ℕ) → permuted ex x p i ≡ x (across ex p (i / 10)) i
   unfolding permuted across
   permuted-across x p i = go (ex (i / 10 % 4))
     where

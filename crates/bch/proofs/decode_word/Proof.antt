@@ -12,7 +12,7 @@ find-requires : tie.Need-find-requires
 find-requires c κs = search needs
 
 turned-requires : tie.Need-turned-requires
-turned-requires c κs = (c .before .before .pre .1 .1 .1, answers-within _ _ (c .find .ensures))
+turned-requires c κs = (c .before .before .pre .1 .1 .1 .0, (c .before .before .pre .1 .1 .1 .1, answers-within _ _ (c .find .ensures)))
 
 returns : tie.Need-returns
 returns c = decoded-is _ _ _ _ _ (search needs) (c .before .before .syndrome .ensures .0) (c .before .find .ensures) (c .turned .ensures)

@@ -20,14 +20,14 @@ abbrev flagAt : List ℕ → ℕ → ℕ
 flagAt s i = flagOf (mend (wordAt s i))
 
 abbrev Inv-loop : tie.InvT-loop
-Inv-loop fold field log ratio column words₀ flags₀ i₀ words flags i =
+Inv-loop remainders field log ratio column bit words₀ flags₀ i₀ words flags i =
     Filling (halfOf (passed words₀)) 768 words₀ words (2 * i) × Filling (flagAt words₀) 384 flags₀ flags i
 
 abbrev μ-loop : tie.MeasureT-loop
-μ-loop fold field log ratio column words₀ flags₀ i₀ words flags i = 384 - i
+μ-loop remainders field log ratio column bit words₀ flags₀ i₀ words flags i = 384 - i
 
 loop-holds : tie.Need-loop-holds Inv-loop μ-loop
-loop-holds c = (filling-start _ (c .before .before .pre .1 .1 .1 .0), filling-start _ (c .before .before .pre .1 .1 .1 .1))
+loop-holds c = (filling-start _ (c .before .before .pre .1 .1 .1 .1 .0), filling-start _ (c .before .before .pre .1 .1 .1 .1 .1))
 
 mul-hi : tie.Need-mul-hi Inv-loop μ-loop
 mul-hi c = omega arith
@@ -51,7 +51,7 @@ slice-read-lo : tie.Need-slice-read-lo Inv-loop μ-loop
 slice-read-lo c = omega arith
 
 decode-word-requires : tie.Need-decode-word-requires Inv-loop μ-loop
-decode-word-requires c κs = let p = c .before .before .before .before .before .before .pre in (p .0, (p .1 .0, (p .1 .1 .0, omega arith)))
+decode-word-requires c κs = let p = c .before .before .before .before .before .before .pre in (p .0, (p .1 .0, (p .1 .1 .0, (p .1 .1 .1 .0, omega arith))))
 
 mul-words : tie.Need-mul-words Inv-loop μ-loop
 mul-words c = omega arith

@@ -1,28 +1,33 @@
--- `bch::turn` meets its contract: the bit is in the one number or in the other. Assumes nothing.
+-- `bch::turn` meets its contract: `turn-law`. Assumes nothing.
 use Rattle.bch.proofs.Halves.{turn-law}
 use borrow.Author.Needs.{needs}
 use Rattle.bch.proofs.turn.Statement.{statement}
 use Rattle.bch.proofs.turn.Tie as tie
 
-sub-d : tie.Need-sub-d
-sub-d c = search needs
+mul-k : tie.Need-mul-k
+mul-k c = search needs
 
-shl-bit : tie.Need-shl-bit
-shl-bit c = search needs
+mul-t6 : tie.Need-mul-t6
+mul-t6 c = search needs
 
-times-requires : tie.Need-times-requires
-times-requires c κs = search needs
+element-copy-out-t5 : tie.Need-element-copy-out-t5
+element-copy-out-t5 c = search needs
 
-sub-times : tie.Need-sub-times
-sub-times c = search needs
+add-t10 : tie.Need-add-t10
+add-t10 c = search needs
 
-times-requires-2 : tie.Need-times-requires-2
-times-requires-2 c κs = search needs
+mul-t11 : tie.Need-mul-t11
+mul-t11 c = search needs
+
+element-copy-out-t14 : tie.Need-element-copy-out-t14
+element-copy-out-t14 c = search needs
 
 returns : tie.Need-returns
 returns c =
-    let start = c .before .before .before .before .pre in
-    turn-law _ _ _ _ _ (start .0) (search needs) (start .1) (search needs) (c .before .before .before .times .ensures) (c .before .times2 .ensures)
+    let start = c .before .before .before .before in
+    turn-law (start .args .bit .now) (start .pre .0) (start .args .w .hi) (start .args .w .lo) (start .args .i) (start .pre .1 .0) (search needs) (start .pre .1 .1)
 
 pub turn-spec : {M : Type 1} → statement M
-turn-spec = tie.close (tie.spec sub-d shl-bit times-requires sub-times times-requires-2 returns)
+turn-spec =
+    tie.close
+    (tie.spec mul-k mul-t6 element-copy-out-t5 add-t10 mul-t11 element-copy-out-t14 returns)

@@ -15,18 +15,18 @@ enum-known-m c = search needs
 
 turn-requires : tie.Need-turn-requires
 unfolding Within
-turn-requires c κs = (c .before .before .before .pre .0, subst Within (c .before .m .given .1) (c .before .before .before .pre .1))
+turn-requires c κs = (c .before .before .before .pre .0, (c .before .before .before .pre .1 .0, subst Within (c .before .m .given .1) (c .before .before .before .pre .1 .1)))
 
 enum-known-m-2 : tie.Need-enum-known-m-2
 enum-known-m-2 c = search needs
 
 turn-requires-2 : tie.Need-turn-requires-2
 unfolding Within
-turn-requires-2 c κs = (c .before .before .before .pre .0, subst Within (c .before .m2 .given .1) (c .before .before .before .pre .1) .0)
+turn-requires-2 c κs = (c .before .before .before .pre .0, (c .before .before .before .pre .1 .0, subst Within (c .before .m2 .given .1) (c .before .before .before .pre .1 .1) .0))
 
 turn-requires-3 : tie.Need-turn-requires-3
 unfolding Within
-turn-requires-3 c κs = (c .turn2 .ensures .1, subst Within (c .before .before .m2 .given .1) (c .before .before .before .before .pre .1) .1)
+turn-requires-3 c κs = (c .before .before .before .before .pre .0, (c .turn2 .ensures .1, subst Within (c .before .before .m2 .given .1) (c .before .before .before .before .pre .1 .1) .1))
 
 enum-told-2 : tie.Need-enum-told-2
 enum-told-2 c = search needs

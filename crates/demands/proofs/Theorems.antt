@@ -1,0 +1,29 @@
+-- The demands over streams, all of them proved.
+-- Assumes nothing.
+use Rattle.demands.specs.Demands.{Demands}
+use Rattle.demands.proofs.Return.{return, one-frame}
+use Rattle.demands.proofs.Trial.{refused-exactly, flips-counted, trials-exist, undamaged-exist}
+use Rattle.demands.proofs.OneForAll.{one-for-all, two-flips}
+use Rattle.demands.proofs.Labels.{spans-label}
+use Rattle.demands.proofs.ReedSolomon.{carries-exactly, reed-solomon-bound, four-pairs}
+use Rattle.demands.proofs.Exceeded.{spans-exist, other-places, other-pairs}
+
+pub demands : Demands
+demands =
+    record {
+      returns = return;
+      oneFrame = one-frame;
+      undamaged = undamaged-exist;
+      twoFlips = two-flips;
+      oneForAll = one-for-all;
+      trials = trials-exist;
+      refused = refused-exactly;
+      flips = flips-counted;
+      bound = reed-solomon-bound;
+      labels = spans-label;
+      spans = spans-exist;
+      carried = carries-exactly;
+      pairs = four-pairs;
+      elsewhere = other-places;
+      otherPairs = other-pairs;
+    }

@@ -1,0 +1,27 @@
+-- The demands over streams, all of them on one page: `proofs/Theorems` has a value of it.
+-- Assumes nothing.
+use Rattle.demands.specs.Return.{Return, UndamagedExist, OneFrame}
+use Rattle.demands.specs.Trial.{FlipsCounted, RefusedExactly, TrialsExist}
+use Rattle.demands.specs.OneForAll.{OneForAll, TwoFlips}
+use Rattle.demands.specs.ReedSolomon.{SpansExist, SpansLabel, CarriesExactly, ReedSolomonBound, FourPairs, OtherPlaces, OtherPairs}
+
+pub record Demands : Type 0 where
+  -- demand 2: an undamaged stream comes back; one frame alone; and there are such streams
+  pub returns : Return
+  pub oneFrame : OneFrame
+  pub undamaged : UndamagedExist
+  -- demand 2: at most two flips in a word are mended
+  pub twoFlips : TwoFlips
+  -- demand 3, first half; and that there are trials, what they are refused by, and what counts as a flip
+  pub oneForAll : OneForAll
+  pub trials : TrialsExist
+  pub refused : RefusedExactly
+  pub flips : FlipsCounted
+  -- demand 3, second half: the bound, for labels by spans, of which there are any; what a word carries; and the places for which it holds
+  pub bound : ReedSolomonBound
+  pub labels : SpansLabel
+  pub spans : SpansExist
+  pub carried : CarriesExactly
+  pub pairs : FourPairs
+  pub elsewhere : OtherPlaces
+  pub otherPairs : OtherPairs
