@@ -30,7 +30,7 @@ uint32_t lr800_send(const uint8_t *input, size_t input_length, uint8_t *store, s
  *   4  flags is not LR800_FLAGS bytes long
  *   5  no lock: 25 or more of the 96 pilot bytes differ. The frame is lost.
  * If both stores were fresh at the first frame and every frame was received, each lane comes back 36 blocks (1,440 bits) later, behind zeros. After a frame
- * that was lost or refused, 18 blocks of each lane come back wrong.
+ * that was lost or refused, the next 36 blocks of each lane may be wrong.
  * The buffers must not overlap. A length of 0 may come with a null pointer, another length may not. */
 uint32_t lr800_receive(const uint8_t *input, size_t input_length, uint8_t *store, size_t store_length, uint8_t *output, size_t output_length,
                        uint8_t *flags, size_t flags_length);
