@@ -1,4 +1,4 @@
-/* The sending and receiving logic of the 800LR coherent line for a host program in C. */
+/* The sending and receiving logic of the 800LR coherent line, and the verdict on a run, for a host program in C. */
 #ifndef ADDERBLOOM_H
 #define ADDERBLOOM_H
 
@@ -34,6 +34,15 @@ uint32_t lr800_send(const uint8_t *input, size_t input_length, uint8_t *store, s
  * The buffers must not overlap. A length of 0 may come with a null pointer, another length may not. */
 uint32_t lr800_receive(const uint8_t *input, size_t input_length, uint8_t *store, size_t store_length, uint8_t *output, size_t output_length,
                        uint8_t *flags, size_t flags_length);
+
+/* The verdict on the numbers of a run: frames asked and flagged words allowed, frames accepted and missing, and words with 0, 1 or 2 bits mended and flagged.
+ * stopped is 0 only if no record was refused and no second order came.
+ *   LR800_NOT_MEASURED  the run was stopped, or asked is 0, or accepted is not asked, or missing is not 0, or the four tallies do not total 384 times accepted
+ *   LR800_PASS          else, if flagged is at most allowed
+ *   LR800_FAIL          else */
+enum { LR800_NOT_MEASURED = 0, LR800_PASS = 1, LR800_FAIL = 2 };
+uint32_t lr800_verdict(uint32_t asked, uint32_t allowed, uint64_t accepted, uint64_t missing, uint64_t clean, uint64_t one, uint64_t two, uint64_t flagged,
+                       uint32_t stopped);
 
 #ifdef __cplusplus
 }

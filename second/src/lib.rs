@@ -1,5 +1,6 @@
 //! The second program: the line's logic in plain Rust, written from the documents, to check and to time the proved code beside it.
 
+pub mod account;
 pub mod lanes;
 pub mod receive;
 pub mod send;

@@ -7,6 +7,8 @@ use Rattle.adderbloom.proofs.lr800_send.Kinds as send-kinds
 use Rattle.adderbloom.proofs.lr800_send.Reads as send-reads
 use Rattle.adderbloom.proofs.lr800_receive.Kinds as receive-kinds
 use Rattle.adderbloom.proofs.lr800_receive.Reads as receive-reads
+use Rattle.adderbloom.proofs.lr800_verdict.Kinds as verdict-kinds
+use Rattle.adderbloom.proofs.lr800_verdict.Reads as verdict-reads
 
 -- the number, and the store and the output at exit
 pub send-determined : Fixes 3 send-kinds.ps send-kinds.r send-reads.Post (λ κs s t. (now (s .1 .0) ≡ now (t .1 .0)) × (now (s .1 .1 .0) ≡ now (t .1 .1 .0)))
@@ -15,3 +17,6 @@ send-determined κs a x y s t p q = (p .number ∙ sym (q .number), (p .store �
 -- the number, and the store, the output and the flags at exit
 pub receive-determined : Fixes 4 receive-kinds.ps receive-kinds.r receive-reads.Post (λ κs s t. (now (s .1 .0) ≡ now (t .1 .0)) × (now (s .1 .1 .0) ≡ now (t .1 .1 .0)) × (now (s .1 .1 .1 .0) ≡ now (t .1 .1 .1 .0)))
 receive-determined κs a x y s t p q = (p .number ∙ sym (q .number), (p .store ∙ sym (q .store), p .output ∙ sym (q .output), p .flags ∙ sym (q .flags)))
+
+pub verdict-determined : Fixes 0 verdict-kinds.ps verdict-kinds.r verdict-reads.Post (λ κs s t. Unit)
+verdict-determined κs a x y s t p q = (p ∙ sym q, tt)

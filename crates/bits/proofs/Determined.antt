@@ -7,6 +7,8 @@ use Rattle.bits.proofs.wide8.Kinds as wide8-kinds
 use Rattle.bits.proofs.wide8.Reads as wide8-reads
 use Rattle.bits.proofs.wide16.Kinds as wide16-kinds
 use Rattle.bits.proofs.wide16.Reads as wide16-reads
+use Rattle.bits.proofs.wide32.Kinds as wide32-kinds
+use Rattle.bits.proofs.wide32.Reads as wide32-reads
 use Rattle.bits.proofs.copy.Kinds as copy-kinds
 use Rattle.bits.proofs.copy.Reads as copy-reads
 
@@ -15,6 +17,9 @@ wide8-determined κs a x y s t p q = (p .0 ∙ sym (q .0), tt)
 
 pub wide16-determined : Fixes 0 wide16-kinds.ps wide16-kinds.r wide16-reads.Post (λ κs s t. Unit)
 wide16-determined κs a x y s t p q = (p .0 ∙ sym (q .0), tt)
+
+pub wide32-determined : Fixes 0 wide32-kinds.ps wide32-kinds.r wide32-reads.Post (λ κs s t. Unit)
+wide32-determined κs a x y s t p q = (p .0 ∙ sym (q .0), tt)
 
 -- no result, and the bytes at exit
 pub copy-determined : Fixes 2 copy-kinds.ps copy-kinds.r copy-reads.Post (λ κs s t. now (s .1 .0) ≡ now (t .1 .0))

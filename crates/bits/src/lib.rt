@@ -1,7 +1,7 @@
 // Bits, words and rows, and the laws of them that every other crate cites. The code is what widens a number or copies bytes without a question asked.
 ghost use mathlib.Core.Path.{_≡_};
 ghost use mathlib.Core.Logic.{_⊎_};
-ghost use Prim.Native.Nat.{_<_, _≤_};
+ghost use Prim.Native.Nat.{_^_, _<_, _≤_};
 ghost use lib.ListN.{length};
 ghost use Rattle.bits.specs.Bits.{copied};
 
@@ -15,6 +15,13 @@ pub fn wide8(x: u8) -> u64
 // A number of 16 bits as one of 64.
 pub fn wide16(x: u16) -> u64
     ensures { λ r. ⌜ (r ≡ x) × (r < 65536) ⌝ }
+{
+    x as u64
+}
+
+// A number of 32 bits as one of 64.
+pub fn wide32(x: u32) -> u64
+    ensures { λ r. ⌜ (r ≡ x) × (r < 2 ^ 32) ⌝ }
 {
     x as u64
 }

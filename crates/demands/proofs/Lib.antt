@@ -2,6 +2,7 @@ pub mod Hit
 pub mod Return
 pub mod Trial
 pub mod OneForAll
+pub mod Tallies
 pub mod Totals
 pub mod Labels
 pub mod ReedSolomon

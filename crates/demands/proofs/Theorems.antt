@@ -4,6 +4,7 @@ use Rattle.demands.specs.Demands.{Demands}
 use Rattle.demands.proofs.Return.{return, one-frame}
 use Rattle.demands.proofs.Trial.{refused-exactly, flips-counted, trials-exist, undamaged-exist}
 use Rattle.demands.proofs.OneForAll.{one-for-all, two-flips}
+use Rattle.demands.proofs.Tallies.{tallies-alike}
 use Rattle.demands.proofs.Labels.{spans-label}
 use Rattle.demands.proofs.ReedSolomon.{carries-exactly, reed-solomon-bound, four-pairs}
 use Rattle.demands.proofs.Exceeded.{spans-exist, other-places, other-pairs}
@@ -16,6 +17,7 @@ demands =
       undamaged = undamaged-exist;
       twoFlips = two-flips;
       oneForAll = one-for-all;
+      tallies = tallies-alike;
       trials = trials-exist;
       refused = refused-exactly;
       flips = flips-counted;

@@ -3,6 +3,7 @@
 use Rattle.demands.specs.Return.{Return, UndamagedExist, OneFrame}
 use Rattle.demands.specs.Trial.{FlipsCounted, RefusedExactly, TrialsExist}
 use Rattle.demands.specs.OneForAll.{OneForAll, TwoFlips}
+use Rattle.demands.specs.Tallies.{TalliesAlike}
 use Rattle.demands.specs.ReedSolomon.{SpansExist, SpansLabel, CarriesExactly, ReedSolomonBound, FourPairs, OtherPlaces, OtherPairs}
 
 pub record Demands : Type 0 where
@@ -12,8 +13,9 @@ pub record Demands : Type 0 where
   pub undamaged : UndamagedExist
   -- demand 2: at most two flips in a word are mended
   pub twoFlips : TwoFlips
-  -- demand 3, first half; and that there are trials, what they are refused by, and what counts as a flip
+  -- demand 3, first half, through the account too; and that there are trials, what they are refused by, and what counts as a flip
   pub oneForAll : OneForAll
+  pub tallies : TalliesAlike
   pub trials : TrialsExist
   pub refused : RefusedExactly
   pub flips : FlipsCounted

@@ -1,5 +1,6 @@
 pub mod Return
 pub mod Trial
 pub mod OneForAll
+pub mod Tallies
 pub mod ReedSolomon
 pub mod Demands

@@ -212,13 +212,6 @@ fn turn_words(words: &[u64], places: usize, out: &mut [u64])
     }
 }
 
-// A number of 32 bits as one of 64.
-fn wide32(x: u32) -> u64
-    ensures { λ r. ⌜ (r ≡ x) × (r < 2 ^ 32) ⌝ }
-{
-    x as u64
-}
-
 // What lane r, of four, puts into the bytes of four symbols, of which the first is number l, with the four low pairs of bits of x.
 fn cast(t: &[u32; 4096], l: usize, r: usize, x: u64) -> u64
     requires { ⌜ IsCast (now t) ⌝ }
@@ -226,7 +219,7 @@ fn cast(t: &[u32; 4096], l: usize, r: usize, x: u64) -> u64
     ensures { λ v. ⌜ (v ≡ castOf l r (x % 256)) × (v < 2 ^ 32) ⌝ }
 {
     let k = 1024 * (l % 4) + 256 * r + ((x % 256) as usize);
-    wide32(t[k])
+    bits::wide32(t[k])
 }
 
 // Four symbols side by side, of which the first is number l: from the four pairs of bits of each number above its m low ones.

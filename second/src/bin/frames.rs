@@ -1,10 +1,12 @@
-//! Writes calls of sending and of receiving and what they must give, as binary records to standard
-//! output: so many calls of each kind, in turn.
+//! Writes calls of sending, of receiving and of the verdict and what they must give, as binary
+//! records to standard output: so many calls of each kind, in turn.
 //!
 //! A record: its kind, one byte, 0 sending or 1 receiving; the lengths (four bytes, big-endian) and
 //! bytes of input, store, output and, of receiving only, flags before the call, each length in
 //! front of its bytes; then the number returned (four bytes, big-endian), and the store, the output
-//! and the flags after it, as long as before.
+//! and the flags after it, as long as before. Of a verdict: its kind, 2; asked and allowed (four
+//! bytes each, big-endian); accepted, missing, clean, one, two and flagged (eight bytes each,
+//! big-endian); stopped (four bytes, 0 is not stopped); then the number returned (four bytes).
 //!
 //! Of every eight calls of sending six continue one run from a fresh store, one has a random store,
 //! and one has wrong lengths, in turn of the input, the store, both, the output, and so on to all.
@@ -14,7 +16,12 @@
 //! wrong pilots. One has in turn a random store, random payload, random symbols without lock, or
 //! both a random store and random payload; and one has wrong lengths in all 15 ways, in turn of a
 //! frame and of random symbols.
+//!
+//! Of every 18 verdicts three pass with as many flagged words as allowed and three fail by one
+//! more; ten miss a condition by as little as can be or by 2^32 or 2^64; one has an arbitrary
+//! allowance, and one is of arbitrary numbers. They have a random generator of their own.
 
+use second::account::verdict;
 use second::lanes::{LANES_BYTES, STORE_BYTES};
 use second::receive::receive;
 use second::send::send;
@@ -25,6 +32,7 @@ use std::io::{self, BufWriter, Write};
 use std::process::ExitCode;
 
 const SEED: u64 = 0x5280_2880_6144_0384;
+const VERDICT_SEED: u64 = 0x0384_0010_0011_0012;
 
 /// How many pilots are wrong, in turn.
 const WRONG_PILOTS: [usize; 7] = [0, 1, 23, 24, 25, 26, PILOT_COUNT];
@@ -203,8 +211,88 @@ fn write_receiving(
     Ok(())
 }
 
+/// What a verdict is asked of: asked, allowed and stopped, and accepted, missing and the tallies.
+type Asked = ([u32; 3], [u64; 6]);
+
+/// A measured run with as many flagged words as allowed, or so many more.
+fn measured(random: &mut Xorshift, more: u64) -> Asked {
+    let asked = match random.below(3) {
+        0 => 1 + random.below(3),
+        1 => 1 + random.below(1_000_000),
+        _ => 1 + random.below(u32::MAX.into()),
+    };
+    let total = 384 * asked;
+    let most = (total - more).min(u32::MAX.into());
+    let allowed = match random.below(6) {
+        0 => 0,
+        1 => most,
+        _ => random.below(most + 1),
+    };
+    let flagged = allowed + more;
+    let clean = random.below(total - flagged + 1);
+    let one = random.below(total - flagged - clean + 1);
+    let two = total - flagged - clean - one;
+    let numbers = [asked, 0, clean, one, two, flagged];
+    ([asked as u32, allowed as u32, 0], numbers)
+}
+
+fn some_verdict(random: &mut Xorshift, call: u64) -> Asked {
+    let (mut order, mut numbers) = measured(random, (call + call / 18) % 2);
+    let either = [1, u64::MAX][random.below(2) as usize];
+    let tally = 2 + random.below(4) as usize;
+    match call % 18 {
+        0..=5 => {}
+        6 => (order[0], numbers) = (0, [0; 6]),
+        7 => order[0] = 0,
+        8 => order[0] = order[0].wrapping_add(either as u32),
+        9 => numbers[0] = numbers[0].wrapping_add(either),
+        10 => numbers[1] = 1,
+        11 | 12 => numbers[tally] = numbers[tally].wrapping_add(either),
+        13 => {
+            // Two of the first three tallies take 2^64 between them.
+            let part = (1 << 62) + random.below(1 << 48) * (1 << 15);
+            let without = 2 + random.below(3) as usize;
+            let mut parts = [part, part.wrapping_neg()].into_iter();
+            for place in (2..5).filter(|&place| place != without) {
+                numbers[place] += parts.next().unwrap();
+            }
+        }
+        14 => order[2] = [1, 1 << 31][random.below(2) as usize],
+        15 => match random.below(4) {
+            0 => numbers[1] = 1 << 32,
+            1 => numbers[tally] += 1 << 32,
+            2 => numbers[0] += 1 << 32,
+            _ => {
+                numbers[0] += 1 << 32;
+                numbers[2] += 384 << 32;
+            }
+        },
+        16 => order[1] = random.next_u64() as u32 >> random.below(32),
+        _ => {
+            order = order.map(|_| random.next_u64() as u32 >> random.below(32));
+            numbers = numbers.map(|_| random.next_u64() >> random.below(64));
+        }
+    }
+    (order, numbers)
+}
+
+fn write_verdict(out: &mut impl Write, random: &mut Xorshift, call: u64) -> io::Result<()> {
+    let ([asked, allowed, stopped], numbers) = some_verdict(random, call);
+    let [accepted, missing, tallies @ ..] = numbers;
+    out.write_all(&[2])?;
+    out.write_all(&asked.to_be_bytes())?;
+    out.write_all(&allowed.to_be_bytes())?;
+    for number in numbers {
+        out.write_all(&number.to_be_bytes())?;
+    }
+    out.write_all(&stopped.to_be_bytes())?;
+    let number = verdict(asked, allowed, accepted, missing, tallies, stopped != 0);
+    out.write_all(&number.to_be_bytes())
+}
+
 fn write_calls(count: u64) -> io::Result<()> {
     let mut random = Xorshift::new(SEED);
+    let mut of_verdicts = Xorshift::new(VERDICT_SEED);
     let mut out = BufWriter::new(io::stdout().lock());
     let mut runs = Runs {
         sender: vec![0; STORE_BYTES],
@@ -214,6 +302,7 @@ fn write_calls(count: u64) -> io::Result<()> {
     for call in 0..count {
         write_sending(&mut out, &mut random, &mut runs, call)?;
         write_receiving(&mut out, &mut random, &mut runs, call)?;
+        write_verdict(&mut out, &mut of_verdicts, call)?;
     }
     out.flush()
 }

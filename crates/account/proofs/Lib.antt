@@ -1,0 +1,6 @@
+pub mod Sums
+pub mod Limits
+pub mod Entered
+pub mod Judged
+pub mod Kept
+pub mod Determined

@@ -1,0 +1,32 @@
+-- What it means that no field of an account stands above its limit.
+-- Assumes nothing.
+use mathlib.Core.Path.{_≡_, refl, sym}
+use mathlib.Core.Bool.{Bool, true, false, _||_, false≢true}
+use Prim.Native.Nat.{_≤_}
+use lib.Dec.{ltb}
+use borrow.Author.Tests.{ltb-false}
+use Rattle.account.specs.Account.{frameLimit, tallyLimit, over}
+use Rattle.account.specs.declared.Account.{Account}
+
+neither : (x y : Bool) → (x || y) ≡ false → (x ≡ false) × (y ≡ false)
+neither false y e = (refl, e)
+neither true y e = absurd (false≢true (sym e))
+
+-- every field of an account that is not over is within its limit
+pub under : (a : Account) → over a ≡ false
+    → (a .accepted ≤ frameLimit) × (a .missing ≤ frameLimit)
+    × (a .words .clean ≤ tallyLimit) × (a .words .one ≤ tallyLimit) × (a .words .two ≤ tallyLimit) × (a .words .flagged ≤ tallyLimit)
+unfolding over
+under a e =
+    let accepted = neither (ltb frameLimit (a .accepted)) _ e in
+    let missing = neither (ltb frameLimit (a .missing)) _ (accepted .1) in
+    let clean = neither (ltb tallyLimit (a .words .clean)) _ (missing .1) in
+    let one = neither (ltb tallyLimit (a .words .one)) _ (clean .1) in
+    let two = neither (ltb tallyLimit (a .words .two)) _ (one .1) in (
+      ltb-false _ _ (accepted .0),
+      ltb-false _ _ (missing .0),
+      ltb-false _ _ (clean .0),
+      ltb-false _ _ (one .0),
+      ltb-false _ _ (two .0),
+      ltb-false _ _ (two .1),
+    )

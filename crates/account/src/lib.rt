@@ -1,0 +1,301 @@
+// The account of a run and its verdict: what each frame changes, by value, and what may be said in the end.
+ghost use mathlib.Core.Path.{_≡_};
+ghost use mathlib.Core.Bool.{false, cond};
+ghost use Prim.Native.Nat.{_+_, _^_, _<_, _≤_};
+ghost use lib.Dec.{eqb, ltb};
+ghost use lib.ListN.{length, getD};
+ghost use Rattle.bits.specs.Bits.{count};
+ghost use Rattle.account.specs.Account.{tallyLimit, talliesOf, ahead, late, opened, total, added, grown, over, frameEntered, lossEntered, measured, verdict, verdictNumber};
+
+// How many words had 0, 1 or 2 bits mended, or were flagged.
+#[repr(C)]
+pub struct Tallies {
+    pub clean: u64,
+    pub one: u64,
+    pub two: u64,
+    pub flagged: u64,
+}
+
+// The next expected number, frames accepted and missing, and the tallies of their words.
+#[repr(C)]
+pub struct Account {
+    pub expected: u32,
+    pub accepted: u64,
+    pub missing: u64,
+    pub words: Tallies,
+}
+
+// An entry's answer: 0 and the new account, or the refusal's number and the account as it was.
+pub struct Entry {
+    pub refusal: u32,
+    pub account: Account,
+}
+
+// What may be said of a run.
+pub enum Verdict {
+    NotMeasured,
+    Pass,
+    Fail,
+}
+
+// The highest that accepted and missing may reach.
+const FRAMES: u64 = 1000000;
+
+// The highest that any one tally may reach.
+const WORDS: u64 = 384000000;
+
+// The words of a frame.
+const DUE: u64 = 384;
+
+// 1 where two bytes are the same, else 0.
+fn same(x: u8, v: u8) -> u64
+    ensures { λ r. ⌜ r ≡ cond (eqb x v) 1 0 ⌝ }
+{
+    if x == v {
+        return 1;
+    }
+    0
+}
+
+// How many of the flag bytes are v.
+fn count_flags(flags: &[u8], v: u8) -> u64
+    requires { ⌜ length (now flags) ≡ 384 ⌝ }
+    ensures { λ r. ⌜ r ≡ count (λ word. eqb (getD (now (flags .entry)) word 0) v) 384 ⌝ }
+{
+    let mut n: u64 = 0;
+    let mut i: usize = 0;
+    while i < 384 {
+        n += same(flags[i], v);
+        i += 1;
+    }
+    n
+}
+
+// The tallies that a frame's flag bytes bring to an account: every word's, whatever the account and the frame's number.
+pub fn tallies_of(a: Account, got: u32, flags: &[u8; 384]) -> Tallies
+    ensures { λ r. ⌜ r ≡ talliesOf a got (now (flags .entry)) ⌝ }
+{
+    let clean = count_flags(flags, 0);
+    let one = count_flags(flags, 1);
+    let two = count_flags(flags, 2);
+    let flagged = count_flags(flags, 3);
+    Tallies {
+        clean,
+        one,
+        two,
+        flagged,
+    }
+}
+
+// The account of a new order.
+pub fn opened(start: u32) -> Account
+    ensures { λ r. ⌜ r ≡ opened start ⌝ }
+{
+    Account {
+        expected: start,
+        accepted: 0,
+        missing: 0,
+        words: Tallies {
+            clean: 0,
+            one: 0,
+            two: 0,
+            flagged: 0,
+        },
+    }
+}
+
+// How far a frame's number lies after the expected one, round 2^32.
+fn ahead(got: u32, expected: u32) -> u32
+    ensures { λ r. ⌜ r ≡ ahead got expected ⌝ }
+{
+    std::num::wrapping_sub_u32(got, expected)
+}
+
+// Half the way round or more is late.
+fn late(d: u32) -> bool
+    ensures { λ r. ⌜ r ≡ late d ⌝ }
+{
+    d >= 2147483648
+}
+
+// A refused entry: the account as it was.
+fn refused(n: u32, a: Account) -> Entry
+    ensures { λ r. ⌜ r ≡ record { refusal = n; account = a } ⌝ }
+{
+    Entry {
+        refusal: n,
+        account: a,
+    }
+}
+
+// Whether x + y is above the limit, with no sum that could wrap.
+fn exceeds(x: u64, y: u64, limit: u64) -> bool
+    ensures { λ r. ⌜ r ≡ ltb limit (x + y) ⌝ }
+{
+    if x > limit {
+        return true;
+    }
+    y > limit - x
+}
+
+// Whether the tallies add up to n, with no sum that could wrap.
+fn adds_up(t: Tallies, n: u64) -> bool
+    ensures { λ r. ⌜ r ≡ eqb (total t) n ⌝ }
+{
+    if t.clean > n {
+        return false;
+    }
+    let a = n - t.clean;
+    if t.one > a {
+        return false;
+    }
+    let b = a - t.one;
+    if t.two > b {
+        return false;
+    }
+    b - t.two == t.flagged
+}
+
+// Whether a limit is passed once so many frames are accepted and missing more, with these tallies.
+fn over(a: Account, accepted: u64, missing: u64, t: Tallies) -> bool
+    ensures { λ r. ⌜ r ≡ over (grown a (a .expected) accepted missing t) ⌝ }
+{
+    let w = a.words;
+    if exceeds(a.accepted, accepted, FRAMES) {
+        return true;
+    }
+    if exceeds(a.missing, missing, FRAMES) {
+        return true;
+    }
+    if exceeds(w.clean, t.clean, WORDS) {
+        return true;
+    }
+    if exceeds(w.one, t.one, WORDS) {
+        return true;
+    }
+    if exceeds(w.two, t.two, WORDS) {
+        return true;
+    }
+    exceeds(w.flagged, t.flagged, WORDS)
+}
+
+// The tallies of both, where no limit is passed.
+fn added(w: Tallies, t: Tallies) -> Tallies
+    requires { ⌜ (w .clean + t .clean ≤ tallyLimit) × (w .one + t .one ≤ tallyLimit) × (w .two + t .two ≤ tallyLimit) × (w .flagged + t .flagged ≤ tallyLimit) ⌝ }
+    ensures { λ r. ⌜ r ≡ added w t ⌝ }
+{
+    Tallies {
+        clean: w.clean + t.clean,
+        one: w.one + t.one,
+        two: w.two + t.two,
+        flagged: w.flagged + t.flagged,
+    }
+}
+
+// The account after the frame numbered got, where no limit is passed.
+fn grown(a: Account, got: u32, accepted: u64, missing: u64, t: Tallies) -> Account
+    requires { ⌜ over (grown a (a .expected) accepted missing t) ≡ false ⌝ }
+    ensures { λ r. ⌜ r ≡ grown a got accepted missing t ⌝ }
+{
+    let w = a.words;
+    Account {
+        expected: std::num::wrapping_add_u32(got, 1),
+        accepted: a.accepted + accepted,
+        missing: a.missing + missing,
+        words: added(w, t),
+    }
+}
+
+// A frame with its tallies. Refused: 10 late, 11 a limit is passed, 12 the tallies are not of the words due.
+pub fn enter(a: Account, got: u32, t: Tallies) -> Entry
+    ensures { λ r. ⌜ r ≡ frameEntered a got t ⌝ }
+{
+    let d = ahead(got, a.expected);
+    if late(d) {
+        return refused(10, a);
+    }
+    let m = bits::wide32(d);
+    if over(a, 1, m, t) {
+        return refused(11, a);
+    }
+    if !adds_up(t, DUE) {
+        return refused(12, a);
+    }
+    let b = grown(a, got, 1, m, t);
+    Entry {
+        refusal: 0,
+        account: b,
+    }
+}
+
+// A loss, a frame without lock: it and the frames before it are missing. Refused: 10 late, 11 a limit is passed.
+pub fn lose(a: Account, got: u32) -> Entry
+    ensures { λ r. ⌜ r ≡ lossEntered a got ⌝ }
+{
+    let d = ahead(got, a.expected);
+    if late(d) {
+        return refused(10, a);
+    }
+    let m = bits::wide32(d) + 1;
+    let t = Tallies {
+        clean: 0,
+        one: 0,
+        two: 0,
+        flagged: 0,
+    };
+    if over(a, 0, m, t) {
+        return refused(11, a);
+    }
+    let b = grown(a, got, 0, m, t);
+    Entry {
+        refusal: 0,
+        account: b,
+    }
+}
+
+// Whether what was asked, all of it and nothing else, was measured.
+fn measured(asked: u64, a: Account) -> bool
+    requires { ⌜ asked < 2 ^ 32 ⌝ }
+    ensures { λ r. ⌜ r ≡ measured asked a ⌝ }
+{
+    if asked == 0 {
+        return false;
+    }
+    if a.accepted != asked {
+        return false;
+    }
+    if a.missing != 0 {
+        return false;
+    }
+    adds_up(a.words, DUE * asked)
+}
+
+// The verdict on numbers, and on whether the run was stopped.
+pub fn verdict_of(asked: u32, allowed: u32, a: Account, stopped: bool) -> Verdict
+    ensures { λ r. ⌜ r ≡ verdict asked allowed a stopped ⌝ }
+{
+    if stopped {
+        return Verdict::NotMeasured;
+    }
+    let n = bits::wide32(asked);
+    if !measured(n, a) {
+        return Verdict::NotMeasured;
+    }
+    let f = a.words.flagged;
+    let most = bits::wide32(allowed);
+    if f <= most {
+        return Verdict::Pass;
+    }
+    Verdict::Fail
+}
+
+// The verdict's number for a host in C.
+pub fn verdict_number(v: Verdict) -> u32
+    ensures { λ r. ⌜ r ≡ verdictNumber v ⌝ }
+{
+    match v {
+        Verdict::NotMeasured => 0,
+        Verdict::Pass => 1,
+        Verdict::Fail => 2,
+    }
+}
