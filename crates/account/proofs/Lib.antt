@@ -4,3 +4,4 @@ pub mod Entered
 pub mod Judged
 pub mod Kept
 pub mod Determined
+pub mod Empty
