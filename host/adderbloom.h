@@ -36,7 +36,9 @@ uint32_t lr800_receive(const uint8_t *input, size_t input_length, uint8_t *store
                        uint8_t *flags, size_t flags_length);
 
 /* The verdict on the numbers of a run: frames asked and flagged words allowed, frames accepted and missing, and words with 0, 1 or 2 bits mended and flagged.
- * stopped is 0 only if no record was refused and no second order came.
+ * Pass 0 for stopped only if an order came first and alone, the capture was read to its end, and no record was refused by 6 to 12. A frame that
+ * lr800_receive refused by 5 is missing, and has moved no store; a frame that the account refuses has moved it already.
+ * Only the numbers given are judged: no limit is applied, and nothing is known of late frames.
  *   LR800_NOT_MEASURED  the run was stopped, or asked is 0, or accepted is not asked, or missing is not 0, or the four tallies do not total 384 times accepted
  *   LR800_PASS          else, if flagged is at most allowed
  *   LR800_FAIL          else */

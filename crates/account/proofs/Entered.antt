@@ -4,7 +4,7 @@ use mathlib.Core.Path.{_≡_, refl, sym, ap, _∙_}
 use mathlib.Core.Bool.{Bool, true, false}
 use Prim.Native.Nat.{ℕ, _+_}
 use lib.Dec.{eqb}
-use Rattle.account.specs.Account.{total, none, ahead, late, grown, over, withFrame, withLoss, frameEntered, lossEntered}
+use Rattle.account.specs.Account.{total, noWords, ahead, late, grown, over, withFrame, withLoss, frameEntered, lossEntered}
 use Rattle.account.specs.declared.Tallies.{Tallies}
 use Rattle.account.specs.declared.Account.{Account}
 
@@ -43,14 +43,14 @@ module _ (a : Account) (got d : ℕ) (e : d ≡ ahead got (a .expected)) where
   unfolding lossEntered
   loss-late h = rw (lateness true h) refl
 
-  module _ (h : late d ≡ false) (b : Bool) (q : b ≡ over (grown a (a .expected) 0 (d + 1) none)) where
+  module _ (h : late d ≡ false) (b : Bool) (q : b ≡ over (grown a (a .expected) 0 (d + 1) noWords)) where
     loss-limit : over (withLoss a got) ≡ b
-    loss-limit = over-next a got (a .expected) 0 (ahead got (a .expected) + 1) none ∙ ap (λ (m : ℕ). over (grown a (a .expected) 0 (m + 1) none)) (sym e) ∙ sym q
+    loss-limit = over-next a got (a .expected) 0 (ahead got (a .expected) + 1) noWords ∙ ap (λ (m : ℕ). over (grown a (a .expected) 0 (m + 1) noWords)) (sym e) ∙ sym q
 
     pub loss-over : b ≡ true → record { refusal = 11; account = a } ≡ lossEntered a got
     unfolding lossEntered
     loss-over y = rw (lateness false h, loss-limit ∙ y) refl
 
-    pub loss-done : (new : Account) → new ≡ grown a got 0 (d + 1) none → b ≡ false → record { refusal = 0; account = new } ≡ lossEntered a got
+    pub loss-done : (new : Account) → new ≡ grown a got 0 (d + 1) noWords → b ≡ false → record { refusal = 0; account = new } ≡ lossEntered a got
     unfolding lossEntered
     loss-done new r n = rw (lateness false h, loss-limit ∙ n, r, e) refl

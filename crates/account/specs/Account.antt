@@ -28,7 +28,7 @@ due a got = 384
 abbrev pub tallied : Account → ℕ → ℕ → Bool
 tallied a got word = true
 
--- how many of a frame's tallied words have the flag v
+-- how many of a frame's tallied words have the flag v, by its 384 flag bytes
 unfoldable pub counted : Account → ℕ → List ℕ → ℕ → ℕ
 counted a got flags v = count (λ word. tallied a got word && eqb (getD flags word 0) v) 384
 
@@ -40,13 +40,13 @@ talliesOf a got flags = record { clean = counted a got flags 0; one = counted a 
 abbrev pub total : Tallies → ℕ
 total t = t .clean + t .one + t .two + t .flagged
 
--- the right total of an account: 384 times the accepted frames
-abbrev pub rightTotal : Account → ℕ
-rightTotal a = 384 * a .accepted
+-- the tallies are of the right total: 384 times the accepted frames
+abbrev pub rightTotal : Account → Bool
+rightTotal a = eqb (total (a .words)) (384 * a .accepted)
 
--- no word
-abbrev pub none : Tallies
-none = record { clean = 0; one = 0; two = 0; flagged = 0 }
+-- no words
+abbrev pub noWords : Tallies
+noWords = record { clean = 0; one = 0; two = 0; flagged = 0 }
 
 -- the tallies of both
 abbrev pub added : Tallies → Tallies → Tallies
@@ -54,7 +54,7 @@ added w t = record { clean = w .clean + t .clean; one = w .one + t .one; two = w
 
 -- the account of a new order
 abbrev pub opened : ℕ → Account
-opened start = record { expected = start; accepted = 0; missing = 0; words = none }
+opened start = record { expected = start; accepted = 0; missing = 0; words = noWords }
 
 -- d: got less expected, round 2^32
 unfoldable pub ahead : ℕ → ℕ → ℕ
@@ -82,7 +82,7 @@ withFrame a got t = grown a got 1 (ahead got (a .expected)) t
 
 -- with a loss, a frame without lock: it is missing too, d + 1 in all, and no tally moves
 abbrev pub withLoss : Account → ℕ → Account
-withLoss a got = grown a got 0 (ahead got (a .expected) + 1) none
+withLoss a got = grown a got 0 (ahead got (a .expected) + 1) noWords
 
 -- an answer: the new account where nothing is refused, else the old one
 abbrev pub answer : ℕ → Account → Account → Entry
@@ -99,9 +99,9 @@ lossEntered a got = answer (cond (late (ahead got (a .expected))) 10 (cond (over
 
 -- at least one frame asked, as many accepted, none missing, and tallies of the right total
 unfoldable pub measured : ℕ → Account → Bool
-measured asked a = ltb 0 asked && (eqb (a .accepted) asked && (eqb (a .missing) 0 && eqb (total (a .words)) (rightTotal a)))
+measured asked a = ltb 0 asked && (eqb (a .accepted) asked && (eqb (a .missing) 0 && rightTotal a))
 
--- PASS if flagged words are at most the allowance, else FAIL; anything else, and a run that was stopped, is not measured
+-- PASS if flagged words are at most the allowance, else FAIL; anything else, and a run that was stopped, is not measured. No limit is applied here
 unfoldable pub verdict : ℕ → ℕ → Account → Bool → Verdict
 verdict asked allowed a stopped = cond (not stopped && measured asked a) (cond (leb (a .words .flagged) allowed) Pass Fail) NotMeasured
 

@@ -1,19 +1,40 @@
 -- What holds of an account from a new order on, as statements (01, account and verdict); `proofs/Kept` proves each.
 -- Assumes nothing.
 use mathlib.Core.Path.{_≡_}
-use Prim.Native.Nat.{ℕ, _+_, _%_, _^_, _<_}
-use Rattle.account.specs.Account.{total, rightTotal, opened, frameEntered, lossEntered}
+use mathlib.Core.Logic.{_≢_}
+use mathlib.Core.Bool.{Bool, false, cond}
+use mathlib.Core.List.{List}
+use Prim.Native.Nat.{ℕ, zero, suc, _+_, _*_, _%_, _^_, _≤_, _<_}
+use lib.ListN.{getD}
+use Rattle.account.specs.Account.{total, due, talliesOf, opened, over, frameEntered, lossEntered}
 use Rattle.account.specs.declared.Account.{Account}
 use Rattle.account.specs.declared.Tallies.{Tallies}
 
--- the account follows on from the order's start: its tallies have the right total, and the next number is as many after start as frames are accepted or missing
+-- the account follows on from the order's start: its tallies total 384 times the accepted frames, the next number is as many after start as frames are
+-- accepted or missing, round 2^32, and no limit is passed
 pub record Follows (start : ℕ) (a : Account) : Type 0 where
-  pub totals : total (a .words) ≡ rightTotal a
+  pub totals : total (a .words) ≡ 384 * a .accepted
   pub numbers : a .expected ≡ (start + a .accepted + a .missing) % 2 ^ 32
+  pub within : over a ≡ false
 
--- so it is with a new order, and every entry, refused or not, keeps it so
+-- the account after f entries of a new order: each a frame with its tallies, or a loss
+unfoldable pub accountAfter : ℕ → (got : ℕ → ℕ) (lost : ℕ → Bool) (tallies : ℕ → Tallies) → ℕ → Account
+accountAfter start got lost tallies zero = opened start
+accountAfter start got lost tallies (suc f) =
+    cond (lost f) (lossEntered (accountAfter start got lost tallies f) (got f)) (frameEntered (accountAfter start got lost tallies f) (got f) (tallies f)) .account
+
+-- from a new order on, whatever is entered and whatever of it is refused
 abbrev pub KeptFromOrder : Type 0
 KeptFromOrder =
-    (start : ℕ) → start < 2 ^ 32
-    → Follows start (opened start)
-    × ((a : Account) (got : ℕ) → got < 2 ^ 32 → Follows start a → ((t : Tallies) → Follows start (frameEntered a got t .account)) × Follows start (lossEntered a got .account))
+    (start : ℕ) (got : ℕ → ℕ) (lost : ℕ → Bool) (tallies : ℕ → Tallies) → start < 2 ^ 32 → ((f : ℕ) → got f < 2 ^ 32)
+    → (f : ℕ) → Follows start (accountAfter start got lost tallies f)
+
+-- a refused entry leaves the account as it was
+abbrev pub RefusedKeeps : Type 0
+RefusedKeeps =
+    (a : Account) (got : ℕ)
+    → ((t : Tallies) → frameEntered a got t .refusal ≢ 0 → frameEntered a got t .account ≡ a) × (lossEntered a got .refusal ≢ 0 → lossEntered a got .account ≡ a)
+
+-- flag bytes that say 0, 1, 2 or 3 bring the words that are due
+abbrev pub Brings : Type 0
+Brings = (a : Account) (got : ℕ) (flags : List ℕ) → ((word : ℕ) → word < 384 → getD flags word 0 ≤ 3) → total (talliesOf a got flags) ≡ due a got

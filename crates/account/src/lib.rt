@@ -8,7 +8,6 @@ ghost use Rattle.bits.specs.Bits.{count};
 ghost use Rattle.account.specs.Account.{tallyLimit, talliesOf, ahead, late, opened, total, added, grown, over, frameEntered, lossEntered, measured, verdict, verdictNumber};
 
 // How many words had 0, 1 or 2 bits mended, or were flagged.
-#[repr(C)]
 pub struct Tallies {
     pub clean: u64,
     pub one: u64,
@@ -17,7 +16,6 @@ pub struct Tallies {
 }
 
 // The next expected number, frames accepted and missing, and the tallies of their words.
-#[repr(C)]
 pub struct Account {
     pub expected: u32,
     pub accepted: u64,
@@ -39,13 +37,16 @@ pub enum Verdict {
 }
 
 // The highest that accepted and missing may reach.
-const FRAMES: u64 = 1000000;
+const FRAME_LIMIT: u64 = 1000000;
 
 // The highest that any one tally may reach.
-const WORDS: u64 = 384000000;
+const TALLY_LIMIT: u64 = 384000000;
 
-// The words of a frame.
+// The words that a frame must bring.
 const DUE: u64 = 384;
+
+// The words tallied of an accepted frame.
+const TALLIED: u64 = 384;
 
 // 1 where two bytes are the same, else 0.
 fn same(x: u8, v: u8) -> u64
@@ -161,22 +162,22 @@ fn over(a: Account, accepted: u64, missing: u64, t: Tallies) -> bool
     ensures { λ r. ⌜ r ≡ over (grown a (a .expected) accepted missing t) ⌝ }
 {
     let w = a.words;
-    if exceeds(a.accepted, accepted, FRAMES) {
+    if exceeds(a.accepted, accepted, FRAME_LIMIT) {
         return true;
     }
-    if exceeds(a.missing, missing, FRAMES) {
+    if exceeds(a.missing, missing, FRAME_LIMIT) {
         return true;
     }
-    if exceeds(w.clean, t.clean, WORDS) {
+    if exceeds(w.clean, t.clean, TALLY_LIMIT) {
         return true;
     }
-    if exceeds(w.one, t.one, WORDS) {
+    if exceeds(w.one, t.one, TALLY_LIMIT) {
         return true;
     }
-    if exceeds(w.two, t.two, WORDS) {
+    if exceeds(w.two, t.two, TALLY_LIMIT) {
         return true;
     }
-    exceeds(w.flagged, t.flagged, WORDS)
+    exceeds(w.flagged, t.flagged, TALLY_LIMIT)
 }
 
 // The tallies of both, where no limit is passed.
@@ -267,7 +268,7 @@ fn measured(asked: u64, a: Account) -> bool
     if a.missing != 0 {
         return false;
     }
-    adds_up(a.words, DUE * asked)
+    adds_up(a.words, TALLIED * asked)
 }
 
 // The verdict on numbers, and on whether the run was stopped.

@@ -28,7 +28,7 @@ pub extern "C" fn lr800_receive(
     framing::receive(input, store, output, flags)
 }
 
-// The verdict on a run's numbers: 0 not measured, 1 PASS, 2 FAIL. A run that was stopped, by a refusal or a second order, is not measured.
+// The verdict on a run's numbers: 0 not measured, 1 PASS, 2 FAIL. A run that was stopped is not measured, whatever its numbers.
 #[no_mangle]
 pub extern "C" fn lr800_verdict(
     asked: u32,
