@@ -1,0 +1,6 @@
+pub mod Cases
+pub mod Found
+pub mod Local
+pub mod Records
+pub mod Determined
+pub mod Bench

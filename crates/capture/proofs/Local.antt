@@ -1,0 +1,122 @@
+-- A record reads the same by itself: what lies before it does not matter, nor what lies behind it.
+-- Assumes nothing.
+use mathlib.Core.Path.{_≡_, refl, sym, ap, _∙_}
+use mathlib.Core.Bool.{Bool, true, false, cond}
+use mathlib.Core.Logic.{_≢_}
+use mathlib.Core.List.{List, _++_}
+use Prim.Native.Nat.{ℕ, _+_, _-_, _<_, _≤_}
+use native.Mathlib.Nat.{add-zero, zero-add, add-assoc, sub-zero}
+use native.Mathlib.Decide.{decLe, decLt, ℕ-discrete}
+use native.Mathlib.Omega.{arith}
+use lib.Dec.{leb}
+use lib.ListN.{length, getD, take, drop, length-drop, length-append, List·getD-append}
+use lib.Seq.{getD-drop, drop-drop, drop-append-le, take-append-le}
+use borrow.Author.Tests.{le-ltb, le-leb, lt-leb}
+use Rattle.bits.proofs.Value.{value-cong}
+use Rattle.capture.specs.declared.Read.{Read}
+use Rattle.capture.specs.declared.Read.the-variants.{Refused}
+use Rattle.capture.specs.Capture.{layout, four, refusalAt, refusedOr, orderAt, frameAt, readAt, moved, symbolsAt}
+use Rattle.capture.specs.Local.{ReadsFromHere, ReadsWithMore, ReadLocal}
+use Rattle.capture.proofs.Cases.{refused-short, order-refused, frame-refused, at-end, no-length, an-order, a-frame, no-lawful, symbols-none, symbols-are}
+
+-- a choice, moved
+moved-cond : (i : ℕ) (b : Bool) (x y : Read) → moved i (cond b x y) ≡ cond b (moved i x) (moved i y)
+moved-cond i true x y = refl
+moved-cond i false x y = refl
+
+module _ (s : List ℕ) (i : ℕ) where
+  four-here : (k : ℕ) → four (drop i s) k ≡ four s (i + k)
+  unfolding four
+  four-here k = value-cong 256 4 _ _ (λ j l. getD-drop i s (k + j) 0 ∙ ap (λ (n : ℕ). getD s n 0) (sym (add-assoc i k j)))
+
+  refusal-here : (bytes kind : ℕ) → refusalAt (drop i s) 0 bytes kind ≡ refusalAt s i bytes kind
+  unfolding refusalAt
+  refusal-here bytes kind = simp (length-drop, getD-drop, sub-zero, zero-add)
+
+  order-here : moved i (orderAt (drop i s) 0) ≡ orderAt s i
+  unfolding orderAt refusedOr moved
+  order-here = simp (moved-cond, refusal-here, four-here)
+
+  frame-here : moved i (frameAt (drop i s) 0) ≡ frameAt s i
+  unfolding frameAt refusedOr moved
+  frame-here = simp (moved-cond, refusal-here, four-here)
+
+  end-here : leb (length s - i) 0 ≡ leb (length s) i
+  end-here = at (decLt i (length s))
+    where
+      at : Dec (i < length s) → leb (length s - i) 0 ≡ leb (length s) i
+      at (yes h) = rw (lt-leb (length s - i) 0 (omega arith)) (sym (lt-leb (length s) i h))
+      at (no h) = rw (le-leb (length s - i) 0 (omega arith)) (sym (le-leb (length s) i (omega arith)))
+
+pub reads-from-here : ReadsFromHere
+unfolding readAt moved
+reads-from-here s i = sym (simp (moved-cond, length-drop, end-here, sub-zero, four-here, add-zero, order-here, frame-here))
+
+module _ (s t : List ℕ) (i : ℕ) where
+  four-more : (k : ℕ) → i + k + 4 ≤ length s → four (s ++ t) (i + k) ≡ four s (i + k)
+  unfolding four
+  four-more k h = value-cong 256 4 _ _ (λ j l. List·getD-append s t 0 (i + k + j) (omega arith))
+
+  refusal-more : (bytes kind : ℕ) → bytes ≤ length s - i → layout .kindAt < bytes → refusalAt (s ++ t) i bytes kind ≡ refusalAt s i bytes kind
+  unfolding refusalAt
+  refusal-more bytes kind h l =
+      let more : bytes ≤ length (s ++ t) - i = rw length-append (omega arith) in
+      rw (le-ltb (length (s ++ t) - i) bytes more, le-ltb (length s - i) bytes h, List·getD-append s t 0 (i + layout .versionAt) (omega arith), List·getD-append s t 0 (i + layout .kindAt) (omega arith))
+
+  order-more : layout .orderBytes ≤ length s - i → orderAt (s ++ t) i ≡ orderAt s i
+  unfolding orderAt
+  order-more h =
+      rw (refusal-more (layout .orderBytes) (layout .orderKind) h (omega arith), four-more (layout .startAt) (omega arith), four-more (layout .askedAt) (omega arith), four-more (layout .allowedAt) (omega arith))
+
+  frame-more : layout .frameBytes ≤ length s - i → frameAt (s ++ t) i ≡ frameAt s i
+  unfolding frameAt
+  frame-more h = rw (refusal-more (layout .frameBytes) (layout .frameKind) h (omega arith), four-more (layout .numberAt) (omega arith))
+
+  -- where the length is there: a lawful one behind which all is there, or another
+  module _ (h : i < length s) (l : length s - i < layout .lengthBytes → ⊥) where
+    here : i < length (s ++ t)
+    here = rw length-append (omega arith)
+
+    there : layout .lengthBytes ≤ length (s ++ t) - i
+    there = rw length-append (omega arith)
+
+    same : four (s ++ t) i ≡ four s i
+    same = ap (four (s ++ t)) (sym (add-zero i)) ∙ four-more 0 (omega arith) ∙ ap (four s) (add-zero i)
+
+    order-same : readAt s i ≢ Refused 6 → four s i ≡ layout .orderLength → Dec (length s - i < layout .orderBytes) → readAt (s ++ t) i ≡ readAt s i
+    order-same c n (yes m) = absurd (c (sym (order-refused s i 6 (refused-short s i _ _ m) (λ (z : _≡_ {A = ℕ} 6 0). omega arith) ∙ an-order s i h (omega arith) n)))
+    order-same c n (no m) = sym (an-order (s ++ t) i here there (same ∙ n)) ∙ order-more (omega arith) ∙ an-order s i h (omega arith) n
+
+    module _ (n : four s i ≡ layout .orderLength → ⊥) where
+      frame-same : readAt s i ≢ Refused 6 → four s i ≡ layout .frameLength → Dec (length s - i < layout .frameBytes) → readAt (s ++ t) i ≡ readAt s i
+      frame-same c f (yes m) = absurd (c (sym (frame-refused s i 6 (refused-short s i _ _ m) (λ (z : _≡_ {A = ℕ} 6 0). omega arith) ∙ a-frame s i h (omega arith) n f)))
+      frame-same c f (no m) = sym (a-frame (s ++ t) i here there (λ z. n (sym same ∙ z)) (same ∙ f)) ∙ frame-more (omega arith) ∙ a-frame s i h (omega arith) n f
+
+      unlawful-same : (four s i ≡ layout .frameLength → ⊥) → readAt (s ++ t) i ≡ readAt s i
+      unlawful-same f = sym (no-lawful (s ++ t) i here there (λ z. n (sym same ∙ z)) (λ z. f (sym same ∙ z))) ∙ no-lawful s i h (omega arith) n f
+
+pub reads-with-more : ReadsWithMore
+reads-with-more s t i e c = at (decLt i (length s)) (decLt (length s - i) (layout .lengthBytes)) (ℕ-discrete (four s i) (layout .orderLength)) (ℕ-discrete (four s i) (layout .frameLength))
+  where
+    at : Dec (i < length s) → Dec (length s - i < layout .lengthBytes) → Dec (four s i ≡ layout .orderLength) → Dec (four s i ≡ layout .frameLength) → readAt (s ++ t) i ≡ readAt s i
+    at (no h) l n f = absurd (e (sym (at-end s i (omega arith))))
+    at (yes h) (yes l) n f = absurd (c (sym (no-length s i h l)))
+    at (yes h) (no l) (yes n) f = order-same s t i h l c n (decLt (length s - i) (layout .orderBytes))
+    at (yes h) (no l) (no n) (yes f) = frame-same s t i h l n c f (decLt (length s - i) (layout .frameBytes))
+    at (yes h) (no l) (no n) (no f) = unlawful-same s t i h l n f
+
+-- the symbols from a place in a part
+pub symbols-here : (s : List ℕ) (i k : ℕ) → symbolsAt s (i + k) ≡ symbolsAt (drop i s) k
+symbols-here s i k = at (decLe (i + k + layout .symbols) (length s))
+  where
+    at : Dec (i + k + layout .symbols ≤ length s) → symbolsAt s (i + k) ≡ symbolsAt (drop i s) k
+    at (yes h) = symbols-are s (i + k) h ∙ ap (take (layout .symbols)) (sym (drop-drop k i s)) ∙ sym (symbols-are (drop i s) k (rw length-drop (omega arith)))
+    at (no h) = sym (symbols-none s (i + k) (omega arith)) ∙ symbols-none (drop i s) k (rw length-drop (omega arith))
+
+pub symbols-more : (s t : List ℕ) (i : ℕ) → i + layout .symbols ≤ length s → symbolsAt (s ++ t) i ≡ symbolsAt s i
+symbols-more s t i h =
+    symbols-are (s ++ t) i (rw length-append (omega arith)) ∙ ap (take (layout .symbols)) (drop-append-le i s t (omega arith))
+    ∙ take-append-le (layout .symbols) (drop i s) t (rw length-drop (omega arith)) ∙ sym (symbols-are s i h)
+
+pub read-local : ReadLocal
+read-local = (reads-from-here, reads-with-more, (symbols-here, symbols-more))

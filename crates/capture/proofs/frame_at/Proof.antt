@@ -1,0 +1,35 @@
+-- `capture::frame_at` meets its contract: what `refusal_at` answers, or the number and the places.
+-- Assumes nothing.
+use denote.Ref.{now}
+use Rattle.capture.specs.Capture.{layout}
+use Rattle.capture.proofs.Cases.{frame-refused, frame-read}
+use Rattle.capture.proofs.Found.{room}
+use borrow.Author.Needs.{needs}
+use Rattle.capture.proofs.frame_at.Statement.{statement}
+use Rattle.capture.proofs.frame_at.Tie as tie
+
+refusal-at-requires : tie.Need-refusal-at-requires
+refusal-at-requires c κs = search needs
+
+returns : tie.Need-returns
+returns c = frame-refused _ _ _ (search needs) (search needs)
+
+add-four : tie.Need-add-four
+add-four c = search needs
+
+four-requires : tie.Need-four-requires
+four-requires c κs = room (now (c .before .before .before .args .capture)) (c .before .before .before .args .place) (layout .frameBytes) (layout .frameKind) (layout .numberAt) (search needs) (search needs)
+
+add-t6 : tie.Need-add-t6
+add-t6 c = search needs
+
+add-t7 : tie.Need-add-t7
+add-t7 c = search needs
+
+returns-2 : tie.Need-returns-2
+returns-2 c = frame-read _ _ _ (search needs) (search needs)
+
+pub frame-at-spec : {M : Type 1} → statement M
+frame-at-spec =
+    tie.close
+    (tie.spec refusal-at-requires returns add-four four-requires add-t6 add-t7 returns-2)

@@ -1,0 +1,47 @@
+-- `capture::refusal_at` meets its contract: each return is a case of `refusalAt`, by the tests that led there.
+-- Assumes nothing.
+use Rattle.capture.proofs.Cases.{refused-short, refused-version, refused-kind, not-refused}
+use borrow.Author.Needs.{needs}
+use Rattle.capture.proofs.refusal_at.Statement.{statement}
+use Rattle.capture.proofs.refusal_at.Tie as tie
+
+sub-if1 : tie.Need-sub-if1
+sub-if1 c = search needs
+
+returns : tie.Need-returns
+returns c = refused-short _ _ _ _ (search needs)
+
+add-if2 : tie.Need-add-if2
+add-if2 c = search needs
+
+shared-slice-read-if2 : tie.Need-shared-slice-read-if2
+shared-slice-read-if2 c = search needs
+
+returns-2 : tie.Need-returns-2
+returns-2 c = refused-version _ _ _ _ (search needs) (search needs)
+
+add-if3 : tie.Need-add-if3
+add-if3 c = search needs
+
+shared-slice-read-if3 : tie.Need-shared-slice-read-if3
+shared-slice-read-if3 c = search needs
+
+returns-3 : tie.Need-returns-3
+returns-3 c = refused-kind _ _ _ _ (search needs) (search needs) (search needs)
+
+returns-4 : tie.Need-returns-4
+returns-4 c = not-refused _ _ _ _ (search needs) (search needs) (search needs)
+
+pub refusal-at-spec : {M : Type 1} → statement M
+refusal-at-spec =
+    tie.close
+    (tie.spec
+    sub-if1
+    returns
+    add-if2
+    shared-slice-read-if2
+    returns-2
+    add-if3
+    shared-slice-read-if3
+    returns-3
+    returns-4)
