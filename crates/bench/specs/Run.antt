@@ -1,0 +1,71 @@
+-- The run of a capture: each record's effect (01, account and verdict).
+-- Assumes nothing.
+use mathlib.Core.Bool.{cond}
+use mathlib.Core.List.{List}
+use Prim.Native.Nat.{ℕ}
+use lib.Dec.{eqb}
+use lib.ListN.{replicate}
+use Rattle.symbols.specs.Pilots.{locks}
+use Rattle.framing.specs.Receive.{receivedStore, receivedFlags}
+use Rattle.account.specs.declared.Account.{Account}
+use Rattle.account.specs.declared.Entry.{Entry}
+use Rattle.account.specs.Account.{talliesOf, opened, frameEntered, lossEntered}
+use Rattle.capture.specs.declared.Read.{Read}
+use Rattle.capture.specs.declared.Read.the-variants.{End, Refused, Order, Frame}
+use Rattle.capture.specs.Capture.{readAt, symbolsAt}
+use Rattle.bench.specs.declared.Run.{Run}
+use Rattle.bench.specs.declared.Phase.{Phase}
+use Rattle.bench.specs.declared.Phase.the-variants.{Unordered, Going, Stopped}
+
+-- a run and the receiver's store
+pub record State : Type 0 where
+  pub run : Run
+  pub store : List ℕ
+
+-- stopped: everything else stays
+abbrev pub stopped : Run → Run
+stopped r = record { phase = Stopped; asked = r .asked; allowed = r .allowed; account = r .account }
+
+-- going on with another account
+abbrev pub going : Run → Account → Run
+going r a = record { phase = Going; asked = r .asked; allowed = r .allowed; account = a }
+
+-- an entry's effect, with the store that receiving left: a refused one only stops the run
+abbrev pub noted : State → Entry → List ℕ → State
+noted st e s = cond (eqb (e .refusal) 0) (record { run = going (st .run) (e .account); store = s }) (record { run = stopped (st .run); store = st .store })
+
+-- one frame: received and entered with the tallies of its flags, or, without lock, entered as a loss
+unfoldable pub framed : State → ℕ → List ℕ → State
+framed st got f =
+    cond (locks f 0)
+    (noted st (frameEntered (st .run .account) got (talliesOf (st .run .account) got (receivedFlags f))) (receivedStore f (st .store)))
+    (noted st (lossEntered (st .run .account) got) (st .store))
+
+-- an order: the first is taken, with a new account and a fresh store; a second one stops the run
+unfoldable pub orderCame : Phase → State → (start asked allowed : ℕ) → State
+orderCame Unordered st start asked allowed = record { run = record { phase = Going; asked = asked; allowed = allowed; account = opened start }; store = replicate 2880 0 }
+orderCame Going st start asked allowed = record { run = stopped (st .run); store = st .store }
+orderCame Stopped st start asked allowed = st
+
+-- a frame: before any order it stops the run
+unfoldable pub frameCame : Phase → State → ℕ → List ℕ → State
+frameCame Unordered st got f = record { run = stopped (st .run); store = st .store }
+frameCame Going st got f = framed st got f
+frameCame Stopped st got f = st
+
+-- a refused record stops the run
+unfoldable pub halted : Phase → Run → Run
+halted Unordered r = stopped r
+halted Going r = stopped r
+halted Stopped r = r
+
+-- one record, by itself: what stands at its beginning
+unfoldable pub cameAs : Read → State → List ℕ → State
+cameAs End st s = st
+cameAs (Refused refusal) st s = record { run = halted (st .run .phase) (st .run); store = st .store }
+cameAs (Order start asked allowed next) st s = orderCame (st .run .phase) st start asked allowed
+cameAs (Frame number from next) st s = frameCame (st .run .phase) st number (symbolsAt s from)
+
+-- a step of the run: one record's bytes alone
+unfoldable pub stepped : State → List ℕ → State
+stepped st s = cameAs (readAt s 0) st s

@@ -1,0 +1,152 @@
+// The run of a capture, record by record.
+ghost use mathlib.Core.Path.{_≡_};
+ghost use lib.ListN.{length};
+ghost use Rattle.bench.specs.Run.{going, stopped, framed, orderCame, frameCame, halted, stepped};
+
+// No order yet; going on; stopped by a refusal, a second order or a record before the order.
+pub enum Phase {
+    Unordered,
+    Going,
+    Stopped,
+}
+
+// What a run holds beside the receiver's store: where it stands, the order's figures and the account.
+pub struct Run {
+    pub phase: Phase,
+    pub asked: u32,
+    pub allowed: u32,
+    pub account: account::Account,
+}
+
+// A store over another, whole.
+fn copy_store(from: &[u8; 2880], to: &mut [u8; 2880])
+    ensures { λ _. ⌜ (now (to .exit) ≡ now (from .entry)) × (length (now (from .entry)) ≡ 2880) ⌝ }
+{
+    bits::copy(from, to);
+}
+
+// The run stopped: its figures and its account stay.
+fn stopped(run: Run) -> Run
+    ensures { λ r. ⌜ r ≡ stopped run ⌝ }
+{
+    let a = run.account;
+    Run {
+        phase: Phase::Stopped,
+        asked: run.asked,
+        allowed: run.allowed,
+        account: a,
+    }
+}
+
+// The run going on with another account.
+fn going(run: Run, a: account::Account) -> Run
+    ensures { λ r. ⌜ r ≡ going run a ⌝ }
+{
+    Run {
+        phase: Phase::Going,
+        asked: run.asked,
+        allowed: run.allowed,
+        account: a,
+    }
+}
+
+// A frame received and entered, or, without lock, entered as a loss. A refused entry stops the run, and the store stays as it was.
+fn framed(run: Run, store: &mut [u8; 2880], got: u32, symbols: &[u8]) -> Run
+    requires { ⌜ length (now symbols) ≡ 6144 ⌝ }
+    ensures { λ r. ⌜ record { run = r; store = now (store .exit) } ≡ framed (record { run = run; store = now (store .entry) }) got (now (symbols .entry)) ⌝ }
+{
+    let a = run.account;
+    let mut kept = [0u8; 2880];
+    copy_store(store, &mut kept);
+    let mut lanes = [0u8; 5280];
+    let mut flags = [0u8; 384];
+    let number = framing::receive(symbols, &mut kept, &mut lanes, &mut flags);
+    if number != 0 {
+        let e = account::lose(a, got);
+        if e.refusal != 0 {
+            return stopped(run);
+        }
+        let b = e.account;
+        return going(run, b);
+    }
+    let t = account::tallies_of(a, got, &flags);
+    let e = account::enter(a, got, t);
+    if e.refusal != 0 {
+        return stopped(run);
+    }
+    copy_store(&kept, store);
+    let b = e.account;
+    going(run, b)
+}
+
+// An order came: the first is taken, with a new account and a fresh store; a second one stops the run.
+fn ordered(run: Run, store: &mut [u8; 2880], start: u32, asked: u32, allowed: u32) -> Run
+    ensures { λ r. ⌜ record { run = r; store = now (store .exit) } ≡ orderCame (run .phase) (record { run = run; store = now (store .entry) }) start asked allowed ⌝ }
+{
+    let p = run.phase;
+    match p {
+        Phase::Unordered => {
+            let fresh = [0u8; 2880];
+            copy_store(&fresh, store);
+            let a = account::opened(start);
+            Run {
+                phase: Phase::Going,
+                asked,
+                allowed,
+                account: a,
+            }
+        }
+        Phase::Going => stopped(run),
+        Phase::Stopped => run,
+    }
+}
+
+// A frame came: before any order it stops the run.
+fn came(run: Run, store: &mut [u8; 2880], got: u32, symbols: &[u8]) -> Run
+    requires { ⌜ length (now symbols) ≡ 6144 ⌝ }
+    ensures { λ r. ⌜ record { run = r; store = now (store .exit) } ≡ frameCame (run .phase) (record { run = run; store = now (store .entry) }) got (now (symbols .entry)) ⌝ }
+{
+    let p = run.phase;
+    match p {
+        Phase::Unordered => stopped(run),
+        Phase::Going => framed(run, store, got, symbols),
+        Phase::Stopped => run,
+    }
+}
+
+// A refused record came: it stops the run.
+fn halted(run: Run) -> Run
+    ensures { λ r. ⌜ r ≡ halted (run .phase) run ⌝ }
+{
+    let p = run.phase;
+    match p {
+        Phase::Unordered => stopped(run),
+        Phase::Going => stopped(run),
+        Phase::Stopped => run,
+    }
+}
+
+// One record's bytes alone, and what they change: a refused record only stops the run, and a run that is stopped changes no more.
+pub fn step(run: Run, store: &mut [u8; 2880], piece: &[u8]) -> Run
+    ensures { λ r. ⌜ record { run = r; store = now (store .exit) } ≡ stepped (record { run = run; store = now (store .entry) }) (now (piece .entry)) ⌝ }
+{
+    let read = capture::read_at(piece, 0);
+    match read {
+        capture::Read::End => run,
+        capture::Read::Refused(_) => halted(run),
+        capture::Read::Order {
+            start,
+            asked,
+            allowed,
+            next: _,
+        } => ordered(run, store, start, asked, allowed),
+        capture::Read::Frame {
+            number,
+            from,
+            next: _,
+        } => {
+            let symbols = capture::symbols_at(piece, from);
+            came(run, store, number, symbols)
+        }
+    }
+}
