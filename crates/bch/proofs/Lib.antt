@@ -1,5 +1,5 @@
 pub mod Remainder
-pub mod Folding
+pub mod Pieces
 pub mod Entries
 pub mod Patterns
 pub mod Distance

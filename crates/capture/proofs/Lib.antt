@@ -3,4 +3,4 @@ pub mod Found
 pub mod Local
 pub mod Records
 pub mod Determined
-pub mod Bench
+pub mod Examples

@@ -8,10 +8,11 @@ use native.Mathlib.Omega.{arith}
 use lib.ListN.{length, getD, take, drop, length-append, length-drop, take-append-drop}
 use lib.Seq.{take-at, drop-at, drop-append-add, length-take-le, getD-take, getD-drop, drop-drop, drop-cons}
 use Rattle.bits.specs.Bits.{tabulate, value}
+use Rattle.bits.proofs.Fields.{Bytes}
 use Rattle.bits.proofs.Value.{value-lt, value-digit, value-digits}
 use Rattle.bits.proofs.Tabulate.{is-tabulate}
 use Rattle.capture.specs.Capture.{layout, four, readAt, symbolsAt, fourBytes, orderRecord, frameRecord, frameRecords, moved}
-use Rattle.capture.specs.Records.{Bytes, OrderReads, FrameReads, OrderFound, FrameFound, FramesRead, Records}
+use Rattle.capture.specs.Records.{OrderReads, FrameReads, OrderFound, FrameFound, FramesRead, Records}
 use Rattle.capture.proofs.Cases.{not-refused, order-read, frame-read, an-order, a-frame, symbols-are}
 use Rattle.capture.proofs.Local.{reads-from-here, symbols-here}
 use Rattle.capture.proofs.Found.{Whole, OrderStands, FrameStands, order-found, frame-found}
@@ -45,7 +46,7 @@ frame-reads number symbols rest hn e = (
 module _ (s : List ℕ) (B : Bytes s) where
   four-lt : (i : ℕ) → four s i < 2 ^ 32
   unfolding four
-  four-lt i = value-lt 256 4 _ (λ k l. B (i + k))
+  four-lt i = value-lt 256 4 _ (λ k l. B .byte (i + k))
 
   -- the four bytes of the number that is read of them
   four-stands : (i : ℕ) → i + 4 ≤ length s → drop i s ≡ fourBytes (four s i) ++ drop (i + 4) s
@@ -58,7 +59,7 @@ module _ (s : List ℕ) (B : Bytes s) where
       size = length-take-le 4 (drop i s) (rw length-drop (omega arith))
 
       at : (k : ℕ) → k < 4 → getD (take 4 (drop i s)) k 0 ≡ four s i / 256 ^ (3 - k) % 256
-      at k l = getD-take 4 (drop i s) k 0 l ∙ getD-drop i s k 0 ∙ sym (value-digit 256 4 (λ j. getD s (i + j) 0) (λ j m. B (i + j)) k l)
+      at k l = getD-take 4 (drop i s) k 0 l ∙ getD-drop i s k 0 ∙ sym (value-digit 256 4 (λ j. getD s (i + j) 0) (λ j m. B .byte (i + j)) k l)
 
   -- the number n, which the answer says
   number-stands : (i n : ℕ) → i + 4 ≤ length s → n ≡ four s i → drop i s ≡ fourBytes n ++ drop (i + 4) s

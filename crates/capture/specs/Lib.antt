@@ -1,4 +1,4 @@
 pub mod Capture
 pub mod Local
 pub mod Records
-pub mod Bench
+pub mod Examples

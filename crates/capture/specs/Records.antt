@@ -3,13 +3,10 @@
 use mathlib.Core.Path.{_≡_}
 use mathlib.Core.List.{List, _++_}
 use Prim.Native.Nat.{ℕ, _+_, _*_, _%_, _^_, _<_}
-use lib.ListN.{length, getD, drop}
+use lib.ListN.{length, drop}
+use Rattle.bits.proofs.Fields.{Bytes}
 use Rattle.capture.specs.declared.Read.the-variants.{Order, Frame}
 use Rattle.capture.specs.Capture.{layout, readAt, symbolsAt, orderRecord, frameRecord, frameRecords}
-
--- every element is a byte
-abbrev pub Bytes : List ℕ → Type 0
-Bytes s = (i : ℕ) → getD s i 0 < 256
 
 -- an order's record, with anything behind it, reads as that order
 abbrev pub OrderReads : Type 0

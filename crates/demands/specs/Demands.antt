@@ -6,6 +6,7 @@ use Rattle.demands.specs.OneForAll.{OneForAll, TwoFlips}
 use Rattle.demands.specs.Tallies.{TalliesAlike}
 use Rattle.demands.specs.ReedSolomon.{SpansExist, SpansLabel, CarriesExactly, ReedSolomonBound, FourPairs, OtherPlaces, OtherPairs}
 
+-- demands 2 and 3, sentence by sentence
 pub record Demands : Type 0 where
   -- demand 2: an undamaged stream comes back; one frame alone; and there are such streams
   pub returns : Return

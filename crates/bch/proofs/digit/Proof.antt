@@ -3,7 +3,7 @@ use mathlib.Core.Path.{sym, subst}
 use Prim.Native.Nat.{ℕ, _<_}
 use native.Mathlib.Omega.{arith}
 use Rattle.bch.proofs.Remainder.{feed-lt}
-use Rattle.bch.proofs.Folding.{digit-law}
+use Rattle.bch.proofs.Pieces.{digit-law}
 use borrow.Author.Needs.{needs}
 use Rattle.bch.proofs.digit.Statement.{statement}
 use Rattle.bch.proofs.digit.Tie as tie

@@ -3,7 +3,7 @@ use mathlib.Core.Path.{_≡_, _∙_}
 use Prim.Native.Nat.{_≤_, _<_, _-_, _/_, _^_}
 use native.Mathlib.Nat.{sub-self, sub-zero, pow-zero, div-one}
 use Rattle.bch.specs.Code.{feedOf}
-use Rattle.bch.proofs.Folding.{feed-turn}
+use Rattle.bch.proofs.Pieces.{feed-turn}
 use native.Mathlib.Omega.{arith}
 use Rattle.bch.proofs.feed.Statement.{statement}
 use Rattle.bch.proofs.feed.Tie as tie

@@ -2,7 +2,7 @@
 use mathlib.Core.Path.{sym, subst}
 use Prim.Native.Nat.{ℕ, _+_, _*_, _^_, _<_}
 use Rattle.bch.proofs.Remainder.{remainder-lt}
-use Rattle.bch.proofs.Folding.{syndrome-law}
+use Rattle.bch.proofs.Pieces.{syndrome-law}
 use borrow.Author.Needs.{needs}
 use Rattle.bch.proofs.syndrome.Statement.{statement}
 use Rattle.bch.proofs.syndrome.Tie as tie

@@ -22,6 +22,7 @@ loneOrder = 0x00 ∷ 0x00 ∷ 0x00 ∷ 0x0E ∷ 0x01 ∷ 0x00 ∷ 0 ∷ 0 ∷ 0 
 abbrev pub withHead : ℕ → ℕ → List ℕ
 withHead version kind = 0 ∷ 0 ∷ 0 ∷ 14 ∷ version ∷ kind ∷ replicate 12 0
 
+-- the lone order, then the end, 6, 7, 8 and 9 each at its edge, and a frame
 unfoldable pub examples : List Example
 examples =
     record { bytes = loneOrder; place = 0; stands = Order 0 1 0 (length loneOrder) }
