@@ -38,6 +38,16 @@ pub fn opened(start: u32) -> Account {
     }
 }
 
+/// Its tallies as `enter` and `verdict` take them.
+pub fn tallies(account: Account) -> [u64; 4] {
+    [account.clean, account.one, account.two, account.flagged]
+}
+
+/// The tallies of a frame by its flags; a flag above 3 counts nowhere, so that they do not add up.
+pub fn count_flags(flags: &[u8; FRAME_WORDS]) -> [u64; 4] {
+    [0, 1, 2, 3].map(|number| flags.iter().filter(|&&flag| flag == number).count() as u64)
+}
+
 fn total(tallies: [u64; 4]) -> u128 {
     tallies.into_iter().map(u128::from).sum()
 }
@@ -140,10 +150,6 @@ mod tests {
         [account.accepted, account.missing, clean, one, two, flagged]
     }
 
-    fn tallies(account: Account) -> [u64; 4] {
-        [account.clean, account.one, account.two, account.flagged]
-    }
-
     /// A frame with its tallies, or a loss.
     fn entry(before: Account, got: u32, frame: Option<[u64; 4]>) -> (u32, Account) {
         match frame {
@@ -207,6 +213,22 @@ mod tests {
         // Frames 12 and 13 are missing, and frame 14 has no lock.
         done(gap, 14, None, account(15, [2, 6, 684, 50, 30, 4]));
         done(gap, 12, None, account(13, [2, 4, 684, 50, 30, 4]));
+    }
+
+    #[test]
+    fn flags_are_counted() {
+        assert_eq!(count_flags(&[0; 384]), [384, 0, 0, 0]);
+        assert_eq!(count_flags(&[3; 384]), [0, 0, 0, 384]);
+        let mut flags = [1; 384];
+        flags[..30].fill(0);
+        flags[100] = 3;
+        flags[380..].fill(2);
+        assert_eq!(count_flags(&flags), [30, 349, 4, 1]);
+        for odd in [4, 5, 128, 255] {
+            flags[383] = odd;
+            assert_eq!(count_flags(&flags), [30, 349, 3, 1]);
+            refused(12, opened(0), 0, Some(count_flags(&flags)));
+        }
     }
 
     #[test]

@@ -1,8 +1,10 @@
 //! The second program: the line's logic in plain Rust, written from the documents, to check and to time the proved code beside it.
 
 pub mod account;
+pub mod capture;
 pub mod lanes;
 pub mod receive;
+pub mod run;
 pub mod send;
 pub mod symbols;
 pub mod word;

@@ -1,7 +1,9 @@
 pub mod Sums
 pub mod Limits
 pub mod Entered
+pub mod Taken
 pub mod Judged
 pub mod Kept
+pub mod Lent
 pub mod Determined
 pub mod Empty

@@ -4,7 +4,7 @@ use mathlib.Core.Path.{_≡_, refl, sym}
 use mathlib.Core.Bool.{Bool, true, false, _||_, false≢true}
 use Prim.Native.Nat.{_≤_}
 use lib.Dec.{ltb}
-use borrow.Author.Tests.{ltb-false}
+use borrow.Author.Tests.{ltb-false, le-ltb}
 use Rattle.account.specs.Account.{frameLimit, tallyLimit, over}
 use Rattle.account.specs.declared.Account.{Account}
 
@@ -30,3 +30,11 @@ under a e =
       ltb-false _ _ (two .0),
       ltb-false _ _ (two .1),
     )
+
+-- and the other way round
+pub within : (a : Account) → a .accepted ≤ frameLimit → a .missing ≤ frameLimit
+    → a .words .clean ≤ tallyLimit → a .words .one ≤ tallyLimit → a .words .two ≤ tallyLimit → a .words .flagged ≤ tallyLimit → over a ≡ false
+unfolding over
+within a m n c o t f =
+    rw (le-ltb frameLimit (a .accepted) m, le-ltb frameLimit (a .missing) n, le-ltb tallyLimit (a .words .clean) c, le-ltb tallyLimit (a .words .one) o, le-ltb tallyLimit (a .words .two) t, le-ltb tallyLimit (a .words .flagged) f)
+    refl

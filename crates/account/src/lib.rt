@@ -1,4 +1,4 @@
-// The account of a run and its verdict: what each frame changes, by value, and what may be said in the end.
+// The account of a run and its verdict: what each frame changes, by value and in place, and what may be said in the end.
 ghost use mathlib.Core.Path.{_≡_};
 ghost use mathlib.Core.Bool.{false, cond};
 ghost use Prim.Native.Nat.{_+_, _^_, _<_, _≤_};
@@ -252,6 +252,31 @@ pub fn lose(a: Account, got: u32) -> Entry
         refusal: 0,
         account: b,
     }
+}
+
+// The account lent: an entry in place. A refused one leaves it as it was.
+pub fn enter_in(a: &mut Account, got: u32, t: Tallies) -> u32
+    ensures { λ r. ⌜ record { refusal = r; account = now (a .exit) } ≡ frameEntered (now (a .entry)) got t ⌝ }
+{
+    let e = enter(*a, got, t);
+    *a = e.account;
+    e.refusal
+}
+
+// A loss in place. A refused one leaves the account as it was.
+pub fn lose_in(a: &mut Account, got: u32) -> u32
+    ensures { λ r. ⌜ record { refusal = r; account = now (a .exit) } ≡ lossEntered (now (a .entry)) got ⌝ }
+{
+    let l = lose(*a, got);
+    *a = l.account;
+    l.refusal
+}
+
+// The account of a new order in place of the one lent.
+pub fn open_in(a: &mut Account, start: u32)
+    ensures { λ _. ⌜ now (a .exit) ≡ opened start ⌝ }
+{
+    *a = opened(start);
 }
 
 // Whether what was asked, all of it and nothing else, was measured.

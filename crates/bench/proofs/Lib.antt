@@ -1,3 +1,9 @@
 pub mod Frames
 pub mod Steps
+pub mod Walk
+pub mod Left
+pub mod Decimal
+pub mod Writing
+pub mod Lengths
 pub mod Determined
+pub mod Examples

@@ -1,1 +1,5 @@
 pub mod Run
+pub mod Walk
+pub mod Report
+pub mod Writing
+pub mod Examples

@@ -1,6 +1,6 @@
 -- The run of a capture: each record's effect (01, account and verdict).
 -- Assumes nothing.
-use mathlib.Core.Bool.{cond}
+use mathlib.Core.Bool.{Bool, true, false, cond, not}
 use mathlib.Core.List.{List}
 use Prim.Native.Nat.{ℕ}
 use lib.Dec.{eqb}
@@ -9,7 +9,8 @@ use Rattle.symbols.specs.Pilots.{locks}
 use Rattle.framing.specs.Receive.{receivedStore, receivedFlags}
 use Rattle.account.specs.declared.Account.{Account}
 use Rattle.account.specs.declared.Entry.{Entry}
-use Rattle.account.specs.Account.{talliesOf, opened, frameEntered, lossEntered}
+use Rattle.account.specs.declared.Verdict.{Verdict}
+use Rattle.account.specs.Account.{talliesOf, opened, frameEntered, lossEntered, verdict}
 use Rattle.capture.specs.declared.Read.{Read}
 use Rattle.capture.specs.declared.Read.the-variants.{End, Refused, Order, Frame}
 use Rattle.capture.specs.Capture.{readAt, symbolsAt}
@@ -21,6 +22,14 @@ use Rattle.bench.specs.declared.Phase.the-variants.{Unordered, Going, St
 pub record State : Type 0 where
   pub run : Run
   pub store : List ℕ
+
+-- the run before its first record: no order, and every number is 0
+abbrev pub begun : Run
+begun = record { phase = Unordered; asked = 0; allowed = 0; account = opened 0 }
+
+-- before its first record a run has a fresh store
+abbrev pub fresh : State
+fresh = record { run = begun; store = replicate 2880 0 }
 
 -- stopped: everything else stays
 abbrev pub stopped : Run → Run
@@ -69,3 +78,19 @@ cameAs (Frame number from next) st s = frameCame (st .run .phase) st number (sym
 -- a step of the run: one record's bytes alone
 unfoldable pub stepped : State → List ℕ → State
 stepped st s = cameAs (readAt s 0) st s
+
+-- the run is stopped
+unfoldable pub isStopped : Phase → Bool
+isStopped Unordered = false
+isStopped Going = false
+isStopped Stopped = true
+
+-- an order came, and nothing has stopped the run since
+unfoldable pub goesOn : Phase → Bool
+goesOn Unordered = false
+goesOn Going = true
+goesOn Stopped = false
+
+-- the verdict of a run: without an order, or stopped, it is not measured
+unfoldable pub verdictOf : Run → Verdict
+verdictOf r = verdict (r .asked) (r .allowed) (r .account) (not (goesOn (r .phase)))

@@ -1,7 +1,12 @@
-// The run of a capture, record by record.
+// The run of a capture, record by record, and its report.
+mod text;
+
+pub use text::LONGEST;
+pub use text::report;
 ghost use mathlib.Core.Path.{_≡_};
 ghost use lib.ListN.{length};
-ghost use Rattle.bench.specs.Run.{going, stopped, framed, orderCame, frameCame, halted, stepped};
+ghost use Rattle.bench.specs.Run.{begun, going, stopped, isStopped, framed, orderCame, frameCame, halted, stepped, goesOn, verdictOf};
+ghost use Rattle.bench.specs.Walk.{examined};
 
 // No order yet; going on; stopped by a refusal, a second order or a record before the order.
 pub enum Phase {
@@ -25,8 +30,21 @@ fn copy_store(from: &[u8; 2880], to: &mut [u8; 2880])
     bits::copy(from, to);
 }
 
+// The run before its first record.
+pub fn begun() -> Run
+    ensures { λ r. ⌜ r ≡ begun ⌝ }
+{
+    let a = account::opened(0);
+    Run {
+        phase: Phase::Unordered,
+        asked: 0,
+        allowed: 0,
+        account: a,
+    }
+}
+
 // The run stopped: its figures and its account stay.
-fn stopped(run: Run) -> Run
+pub fn stopped(run: Run) -> Run
     ensures { λ r. ⌜ r ≡ stopped run ⌝ }
 {
     let a = run.account;
@@ -35,6 +53,18 @@ fn stopped(run: Run) -> Run
         asked: run.asked,
         allowed: run.allowed,
         account: a,
+    }
+}
+
+// Whether it is.
+pub fn is_stopped(run: Run) -> bool
+    ensures { λ r. ⌜ r ≡ isStopped (run .phase) ⌝ }
+{
+    let p = run.phase;
+    match p {
+        Phase::Unordered => false,
+        Phase::Going => false,
+        Phase::Stopped => true,
     }
 }
 
@@ -149,4 +179,43 @@ pub fn step(run: Run, store: &mut [u8; 2880], piece: &[u8]) -> Run
             came(run, store, number, symbols)
         }
     }
+}
+
+// Whether an order came, and nothing has stopped the run since.
+fn goes_on(p: Phase) -> bool
+    ensures { λ r. ⌜ r ≡ goesOn p ⌝ }
+{
+    match p {
+        Phase::Unordered => false,
+        Phase::Going => true,
+        Phase::Stopped => false,
+    }
+}
+
+// The verdict of a run.
+pub fn verdict_of(run: Run) -> account::Verdict
+    ensures { λ r. ⌜ r ≡ verdictOf run ⌝ }
+{
+    let p = run.phase;
+    let a = run.account;
+    account::verdict_of(run.asked, run.allowed, a, !goes_on(p))
+}
+
+// A whole capture from a fresh run on, record by record. At a refused record the place stays, and the run is stopped.
+pub fn examine_capture(capture: &[u8]) -> Run
+    ensures { λ r. ⌜ r ≡ examined (now (capture .entry)) .run ⌝ }
+{
+    let mut store = [0u8; 2880];
+    let mut run = begun();
+    let mut place: usize = 0;
+    while place < capture.len() {
+        let read = capture::read_at(capture, place);
+        run = step(run, &mut store, &capture[place..]);
+        let next = capture::next_place(read, place);
+        if next <= place {
+            return run;
+        }
+        place = next;
+    }
+    run
 }

@@ -9,7 +9,7 @@ use lib.ListN.{length, getD, take, drop}
 use borrow.Author.Tests.{lt-ltb, le-ltb, le-leb, lt-leb, eq-eqb, ne-eqb}
 use Rattle.bits.specs.Bits.{value}
 use Rattle.capture.specs.declared.Read.the-variants.{End, Refused, Order, Frame}
-use Rattle.capture.specs.Capture.{layout, four, refusalAt, refusedOr, orderAt, frameAt, readAt, symbolsAt}
+use Rattle.capture.specs.Capture.{layout, four, refusalAt, refusedOr, orderAt, frameAt, readAt, symbolsAt, wanted}
 
 module _ (s : List ℕ) (i : ℕ) where
   -- four bytes as a number, byte by byte
@@ -93,3 +93,23 @@ module _ (s : List ℕ) (i : ℕ) where
   -- as the code cuts them out
   pub symbols-some : i + layout .symbols ≤ length s → take (i + layout .symbols - i) (drop i s) ≡ symbolsAt s i
   symbols-some h = rw add-sub-cancel-left (sym (symbols-are h))
+
+-- how many bytes to ask for
+module _ (s : List ℕ) where
+  pub wanted-first : length s < layout .lengthBytes → layout .lengthBytes ≡ wanted s
+  unfolding wanted
+  wanted-first h = simp (lt-ltb (length s) (layout .lengthBytes) h)
+
+  module _ (h : layout .lengthBytes ≤ length s) where
+    pub wanted-order : four s 0 ≡ layout .orderLength → layout .orderBytes ≡ wanted s
+    unfolding wanted
+    wanted-order n = simp (le-ltb (length s) (layout .lengthBytes) h, eq-eqb (four s 0) (layout .orderLength) n)
+
+    module _ (n : four s 0 ≡ layout .orderLength → ⊥) where
+      pub wanted-frame : four s 0 ≡ layout .frameLength → layout .frameBytes ≡ wanted s
+      unfolding wanted
+      wanted-frame m = simp (le-ltb (length s) (layout .lengthBytes) h, ne-eqb (four s 0) (layout .orderLength) n, eq-eqb (four s 0) (layout .frameLength) m)
+
+      pub wanted-no-more : (four s 0 ≡ layout .frameLength → ⊥) → layout .lengthBytes ≡ wanted s
+      unfolding wanted
+      wanted-no-more m = simp (le-ltb (length s) (layout .lengthBytes) h, ne-eqb (four s 0) (layout .orderLength) n, ne-eqb (four s 0) (layout .frameLength) m)

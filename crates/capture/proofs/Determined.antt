@@ -23,6 +23,8 @@ use Rattle.capture.proofs.symbols_at.Kinds as symbols-kinds
 use Rattle.capture.proofs.symbols_at.Reads as symbols-reads
 use Rattle.capture.proofs.next_place.Kinds as place-kinds
 use Rattle.capture.proofs.next_place.Reads as place-reads
+use Rattle.capture.proofs.wanted.Kinds as wanted-kinds
+use Rattle.capture.proofs.wanted.Reads as wanted-reads
 use Rattle.capture.proofs.begin as begin
 use Rattle.capture.proofs.next as next
 use Rattle.capture.proofs.moved as moved
@@ -41,6 +43,10 @@ symbols-at-determined κs a x y s t p q = p ∙ sym q
 -- a place
 pub next-place-determined : Fixes 0 place-kinds.ps place-kinds.r place-reads.Post (λ κs s t. Unit)
 next-place-determined κs a x y s t p q = (p ∙ sym q, tt)
+
+-- a number of bytes
+pub wanted-determined : Fixes 1 wanted-kinds.ps wanted-kinds.r wanted-reads.Post (λ κs s t. Unit)
+wanted-determined κs a x y s t p q = (p ∙ sym q, tt)
 
 -- The functions of the reader are proved by a walk, so their `ensures` stands as an assertion of the logic. It is a plain fact `says` of the result, and two
 -- results of one call of which that holds are alike.

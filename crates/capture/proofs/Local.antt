@@ -8,16 +8,17 @@ use Prim.Native.Nat.{ℕ, _+_, _-_, _<_, _≤_}
 use native.Mathlib.Nat.{add-zero, zero-add, add-assoc, sub-zero}
 use native.Mathlib.Decide.{decLe, decLt, ℕ-discrete}
 use native.Mathlib.Omega.{arith}
-use lib.Dec.{leb}
-use lib.ListN.{length, getD, take, drop, length-drop, length-append, List·getD-append}
-use lib.Seq.{getD-drop, drop-drop, drop-append-le, take-append-le}
+use lib.Dec.{eqb, ltb, leb}
+use lib.ListN.{length, getD, take, drop, length-drop, length-append, take-append-drop, List·getD-append}
+use lib.Seq.{getD-drop, drop-drop, drop-append-le, take-append-le, length-take-le, take-all}
 use borrow.Author.Tests.{le-ltb, le-leb, lt-leb}
 use Rattle.bits.proofs.Value.{value-cong}
 use Rattle.capture.specs.declared.Read.{Read}
 use Rattle.capture.specs.declared.Read.the-variants.{Refused}
-use Rattle.capture.specs.Capture.{layout, four, refusalAt, refusedOr, orderAt, frameAt, readAt, moved, symbolsAt}
-use Rattle.capture.specs.Local.{ReadsFromHere, ReadsWithMore, ReadLocal}
-use Rattle.capture.proofs.Cases.{refused-short, order-refused, frame-refused, at-end, no-length, an-order, a-frame, no-lawful, symbols-none, symbols-are}
+use Rattle.capture.specs.Capture.{layout, four, refusalAt, refusedOr, orderAt, frameAt, readAt, moved, symbolsAt, wanted}
+use Rattle.capture.specs.Local.{ReadsFromHere, ReadsWithMore, WantedReads, WantedAlike, ReadLocal}
+use Rattle.capture.proofs.Cases.{refused-short, order-refused, frame-refused, at-end, no-length, an-order, a-frame, no-lawful, symbols-none, symbols-are, wanted-first, wanted-order, wanted-frame, wanted-no-more}
+use Rattle.capture.proofs.Found.{order-found, frame-found}
 
 -- a choice, moved
 moved-cond : (i : ℕ) (b : Bool) (x y : Read) → moved i (cond b x y) ≡ cond b (moved i x) (moved i y)
@@ -118,5 +119,83 @@ symbols-more s t i h =
     symbols-are (s ++ t) i (rw length-append (omega arith)) ∙ ap (take (layout .symbols)) (drop-append-le i s t (omega arith))
     ∙ take-append-le (layout .symbols) (drop i s) t (rw length-drop (omega arith)) ∙ sym (symbols-are s i h)
 
+-- the bytes wanted are enough: where all of them are there, the record is; where fewer are, there are no more
+module _ (s : List ℕ) where
+  module _ (bytes : ℕ) (h : bytes ≤ length s) (l : layout .lengthBytes ≤ bytes) where
+    taken : length (take bytes s) ≡ bytes
+    taken = length-take-le bytes s h
+
+    four-taken : four s 0 ≡ four (take bytes s) 0
+    four-taken = ap (λ (x : List ℕ). four x 0) (sym (take-append-drop bytes s)) ∙ four-more (take bytes s) (drop bytes s) 0 0 (rw taken (omega arith))
+
+  order-wanted : four s 0 ≡ layout .orderLength → Dec (length s < layout .orderBytes) → readAt (take (layout .orderBytes) s) 0 ≡ readAt s 0
+  order-wanted n (yes h) = ap (λ (x : List ℕ). readAt x 0) (take-all (layout .orderBytes) s (omega arith))
+  order-wanted n (no h) =
+      let t = taken (layout .orderBytes) (omega arith) (omega arith) in
+      sym (an-order (take (layout .orderBytes) s) 0 (omega arith) (omega arith) (sym (four-taken (layout .orderBytes) (omega arith) (omega arith)) ∙ n))
+      ∙ sym (order-more (take (layout .orderBytes) s) (drop (layout .orderBytes) s) 0 (omega arith))
+      ∙ ap (λ (x : List ℕ). orderAt x 0) (take-append-drop (layout .orderBytes) s) ∙ an-order s 0 (omega arith) (omega arith) n
+
+  frame-wanted : (four s 0 ≡ layout .orderLength → ⊥) → four s 0 ≡ layout .frameLength → Dec (length s < layout .frameBytes) → readAt (take (layout .frameBytes) s) 0 ≡ readAt s 0
+  frame-wanted n f (yes h) = ap (λ (x : List ℕ). readAt x 0) (take-all (layout .frameBytes) s (omega arith))
+  frame-wanted n f (no h) =
+      let t = taken (layout .frameBytes) (omega arith) (omega arith) in
+      let e = four-taken (layout .frameBytes) (omega arith) (omega arith) in
+      sym (a-frame (take (layout .frameBytes) s) 0 (omega arith) (omega arith) (λ z. n (e ∙ z)) (sym e ∙ f))
+      ∙ sym (frame-more (take (layout .frameBytes) s) (drop (layout .frameBytes) s) 0 (omega arith))
+      ∙ ap (λ (x : List ℕ). frameAt x 0) (take-append-drop (layout .frameBytes) s) ∙ a-frame s 0 (omega arith) (omega arith) n f
+
+  unlawful-wanted : layout .lengthBytes ≤ length s → (four s 0 ≡ layout .orderLength → ⊥) → (four s 0 ≡ layout .frameLength → ⊥) → readAt (take (layout .lengthBytes) s) 0 ≡ readAt s 0
+  unlawful-wanted h n f =
+      let t = taken (layout .lengthBytes) h (omega arith) in
+      let e = four-taken (layout .lengthBytes) h (omega arith) in
+      sym (no-lawful (take (layout .lengthBytes) s) 0 (omega arith) (omega arith) (λ z. n (e ∙ z)) (λ z. f (e ∙ z))) ∙ no-lawful s 0 (omega arith) (omega arith) n f
+
+  piece-reads : readAt (take (wanted s) s) 0 ≡ readAt s 0
+  piece-reads = at (decLt (length s) (layout .lengthBytes)) (ℕ-discrete (four s 0) (layout .orderLength)) (ℕ-discrete (four s 0) (layout .frameLength))
+    where
+      to : (n : ℕ) → n ≡ wanted s → readAt (take n s) 0 ≡ readAt s 0 → readAt (take (wanted s) s) 0 ≡ readAt s 0
+      to n e h = ap (λ (w : ℕ). readAt (take w s) 0) (sym e) ∙ h
+
+      at : Dec (length s < layout .lengthBytes) → Dec (four s 0 ≡ layout .orderLength) → Dec (four s 0 ≡ layout .frameLength) → readAt (take (wanted s) s) 0 ≡ readAt s 0
+      at (yes l) n f = to _ (wanted-first s l) (ap (λ (x : List ℕ). readAt x 0) (take-all (layout .lengthBytes) s (omega arith)))
+      at (no l) (yes n) f = to _ (wanted-order s (omega arith) n) (order-wanted n (decLt (length s) (layout .orderBytes)))
+      at (no l) (no n) (yes f) = to _ (wanted-frame s (omega arith) n f) (frame-wanted n f (decLt (length s) (layout .frameBytes)))
+      at (no l) (no n) (no f) = to _ (wanted-no-more s (omega arith) n f) (unlawful-wanted (omega arith) n f)
+
+pub wanted-reads : WantedReads
+wanted-reads s = (
+  piece-reads s,
+  λ start asked allowed next e. let O = order-found s 0 e in let w = O .whole .inside in O .next-is ∙ wanted-order s (omega arith) (O .length),
+  λ number from next e.
+      let F = frame-found s 0 e in
+      let w = F .whole .inside in
+      let at = F .from-is in
+      let all : layout .frameBytes ≡ wanted s = wanted-frame s (omega arith) (λ (z : four s 0 ≡ layout .orderLength). let q = F .length in omega arith) (F .length) in (
+        F .next-is ∙ all,
+        sym (symbols-more (take (wanted s) s) (drop (wanted s) s) from (let t : length (take (wanted s) s) ≡ wanted s = length-take-le (wanted s) s (omega arith) in omega arith))
+            ∙ ap (λ (x : List ℕ). symbolsAt x from) (take-append-drop (wanted s) s),
+      ),
+)
+
+-- at least the length is wanted, and at most a frame's record
+pub wanted-bounds : (s : List ℕ) → (layout .lengthBytes ≤ wanted s) × (wanted s ≤ layout .frameBytes)
+unfolding wanted
+wanted-bounds s = go (ltb (length s) (layout .lengthBytes)) (eqb (four s 0) (layout .orderLength)) (eqb (four s 0) (layout .frameLength))
+  where
+    go : (x y z : Bool)
+        → (layout .lengthBytes ≤ cond x (layout .lengthBytes) (cond y (layout .orderBytes) (cond z (layout .frameBytes) (layout .lengthBytes))))
+        × (cond x (layout .lengthBytes) (cond y (layout .orderBytes) (cond z (layout .frameBytes) (layout .lengthBytes))) ≤ layout .frameBytes)
+    go true y z = (omega arith, omega arith)
+    go false true z = (omega arith, omega arith)
+    go false false true = (omega arith, omega arith)
+    go false false false = (omega arith, omega arith)
+
+pub wanted-alike : WantedAlike
+unfolding wanted
+wanted-alike s t h =
+    let more : layout .lengthBytes ≤ length (s ++ t) = rw length-append (omega arith) in
+    rw (le-ltb (length (s ++ t)) (layout .lengthBytes) more, le-ltb (length s) (layout .lengthBytes) h, four-more s t 0 0 h) refl
+
 pub read-local : ReadLocal
-read-local = (reads-from-here, reads-with-more, (symbols-here, symbols-more))
+read-local = (reads-from-here, reads-with-more, (symbols-here, symbols-more), wanted-reads, wanted-alike)

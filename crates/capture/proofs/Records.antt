@@ -127,45 +127,45 @@ frame-length : (number : ℕ) (symbols : List ℕ) → length symbols ≡ layout
 unfolding frameRecord fourBytes tabulate
 frame-length number symbols e = omega arith
 
-module _ (start : ℕ) (frames : ℕ → List ℕ) where
-  frames-length : (n : ℕ) → ((k : ℕ) → k < n → length (frames k) ≡ layout .symbols) → length (frameRecords start frames n) ≡ n * layout .frameBytes
+module _ (numbers : ℕ → ℕ) (frames : ℕ → List ℕ) where
+  frames-length : (n : ℕ) → ((k : ℕ) → k < n → length (frames k) ≡ layout .symbols) → length (frameRecords numbers frames n) ≡ n * layout .frameBytes
   unfolding frameRecords
   frames-length zero h = refl
   frames-length (suc n) h =
-      let before : length (frameRecords start frames n) ≡ n * layout .frameBytes = frames-length n (λ k l. h k (omega arith)) in
-      let last : length (frameRecord ((start + n) % 2 ^ 32) (frames n)) ≡ layout .frameBytes = frame-length _ (frames n) (h n (omega arith)) in
+      let before : length (frameRecords numbers frames n) ≡ n * layout .frameBytes = frames-length n (λ k l. h k (omega arith)) in
+      let last : length (frameRecord (numbers n) (frames n)) ≡ layout .frameBytes = frame-length _ (frames n) (h n (omega arith)) in
       rw length-append (omega arith)
 
   -- from the place of frame k on stands its record, and something behind it
   frames-drop : (n k : ℕ) (rest : List ℕ) → ((k : ℕ) → k < n → length (frames k) ≡ layout .symbols) → k < n
-      → (behind : List ℕ) × (drop (k * layout .frameBytes) (frameRecords start frames n ++ rest) ≡ frameRecord ((start + k) % 2 ^ 32) (frames k) ++ behind)
+      → (behind : List ℕ) × (drop (k * layout .frameBytes) (frameRecords numbers frames n ++ rest) ≡ frameRecord (numbers k) (frames k) ++ behind)
   unfolding frameRecords
   frames-drop zero k rest h l = absurd (omega arith)
   frames-drop (suc n) k rest h l = at (frames-drop n k (last ++ rest) (λ j o. h j (omega arith))) (decLt k n)
     where
       last : List ℕ
-      last = frameRecord ((start + n) % 2 ^ 32) (frames n)
+      last = frameRecord (numbers n) (frames n)
 
-      at : (k < n → (behind : List ℕ) × (drop (k * layout .frameBytes) (frameRecords start frames n ++ (last ++ rest)) ≡ frameRecord ((start + k) % 2 ^ 32) (frames k) ++ behind))
+      at : (k < n → (behind : List ℕ) × (drop (k * layout .frameBytes) (frameRecords numbers frames n ++ (last ++ rest)) ≡ frameRecord (numbers k) (frames k) ++ behind))
           → Dec (k < n)
           → (behind : List ℕ)
-          × (drop (k * layout .frameBytes) ((frameRecords start frames n ++ last) ++ rest) ≡ frameRecord ((start + k) % 2 ^ 32) (frames k) ++ behind)
+          × (drop (k * layout .frameBytes) ((frameRecords numbers frames n ++ last) ++ rest) ≡ frameRecord (numbers k) (frames k) ++ behind)
       at earlier (yes m) = rw append-assoc (earlier m)
       at earlier (no m) =
           let e : k ≡ n = omega arith in
-          rw (append-assoc, e) (rest, drop-at (frameRecords start frames n) (last ++ rest) (n * layout .frameBytes) (frames-length n (λ j o. h j (omega arith))))
+          rw (append-assoc, e) (rest, drop-at (frameRecords numbers frames n) (last ++ rest) (n * layout .frameBytes) (frames-length n (λ j o. h j (omega arith))))
 
 pub frames-read : FramesRead
 unfolding moved
-frames-read start n frames before rest h k i l e =
-    let D = frames-drop start frames n k rest h l in
-    let R = frame-reads ((start + k) % 2 ^ 32) (frames k) (D .0) (omega arith) (h k l) in
-    let at : drop i (before ++ (frameRecords start frames n ++ rest)) ≡ frameRecord ((start + k) % 2 ^ 32) (frames k) ++ D .0
-    = rw e (drop-append-add before (frameRecords start frames n ++ rest) (k * layout .frameBytes) ∙ D .1)
+frames-read n numbers frames before rest h k i l e =
+    let D = frames-drop numbers frames n k rest (λ j o. h j o .1) l in
+    let R = frame-reads (numbers k) (frames k) (D .0) (h k l .0) (h k l .1) in
+    let at : drop i (before ++ (frameRecords numbers frames n ++ rest)) ≡ frameRecord (numbers k) (frames k) ++ D .0
+    = rw e (drop-append-add before (frameRecords numbers frames n ++ rest) (k * layout .frameBytes) ∙ D .1)
     in (
       reads-from-here _ i ∙ ap (λ (s : List ℕ). moved i (readAt s 0)) at ∙ ap (moved i) (R .0),
       symbols-here _ i (layout .symbolsFrom) ∙ ap (λ (s : List ℕ). symbolsAt s (layout .symbolsFrom)) at ∙ R .1,
     )
 
 pub records : Records
-records = record { orderReads = order-reads; frameReads = frame-reads; orderFound = order-stands; frameFound = frame-stands; framesRead = frames-read; recordLengths = (order-length, frame-length, λ start n frames. frames-length start frames n) }
+records = record { orderReads = order-reads; frameReads = frame-reads; orderFound = order-stands; frameFound = frame-stands; framesRead = frames-read; recordLengths = (order-length, frame-length, λ n numbers frames. frames-length numbers frames n) }

@@ -117,6 +117,14 @@ moved i (Frame number from next) = Frame number (i + from) (i + next)
 unfoldable pub symbolsAt : List ℕ → ℕ → List ℕ
 symbolsAt s i = cond (leb (i + layout .symbols) (length s)) (take (layout .symbols) (drop i s)) []
 
+-- how many bytes of a record to ask for, by those that are there: its length, and once that is there and lawful, all of it (01, account: one record at a time)
+unfoldable pub wanted : List ℕ → ℕ
+wanted s =
+    cond (ltb (length s) (layout .lengthBytes)) (layout .lengthBytes)
+    (cond (eqb (four s 0) (layout .orderLength)) (layout .orderBytes)
+    (cond (eqb (four s 0) (layout .frameLength)) (layout .frameBytes)
+    (layout .lengthBytes)))
+
 -- a number in four bytes, big-endian (01, capture records)
 unfoldable pub fourBytes : ℕ → List ℕ
 fourBytes n = tabulate 4 (λ k. n / 256 ^ (3 - k) % 256)
@@ -130,7 +138,11 @@ orderRecord start asked allowed =
 unfoldable pub frameRecord : ℕ → List ℕ → List ℕ
 frameRecord number symbols = fourBytes (layout .frameLength) ++ (layout .version ∷ layout .frameKind ∷ []) ++ fourBytes number ++ symbols
 
--- the records of frames 0, 1, .., n - 1, numbered from start on, round at 2^32 (01, account)
-unfoldable pub frameRecords : ℕ → (ℕ → List ℕ) → ℕ → List ℕ
-frameRecords start frames zero = []
-frameRecords start frames (suc n) = frameRecords start frames n ++ frameRecord ((start + n) % 2 ^ 32) (frames n)
+-- the number of frame k of a run, round at 2^32 (01, account)
+abbrev pub inTurn : ℕ → ℕ → ℕ
+inTurn start k = (start + k) % 2 ^ 32
+
+-- the records of frames 0, 1, .., n - 1, with their numbers, one after the other (01, capture records)
+unfoldable pub frameRecords : (ℕ → ℕ) → (ℕ → List ℕ) → ℕ → List ℕ
+frameRecords numbers frames zero = []
+frameRecords numbers frames (suc n) = frameRecords numbers frames n ++ frameRecord (numbers n) (frames n)

@@ -4,9 +4,9 @@ use mathlib.Core.Path.{_≡_}
 use mathlib.Core.Logic.{_≢_}
 use mathlib.Core.List.{List, _++_}
 use Prim.Native.Nat.{ℕ, _+_, _≤_}
-use lib.ListN.{length, drop}
-use Rattle.capture.specs.declared.Read.the-variants.{End, Refused}
-use Rattle.capture.specs.Capture.{layout, readAt, moved, symbolsAt}
+use lib.ListN.{length, take, drop}
+use Rattle.capture.specs.declared.Read.the-variants.{End, Refused, Order, Frame}
+use Rattle.capture.specs.Capture.{layout, readAt, moved, symbolsAt, wanted}
 
 -- what stands at a place is what stands at the beginning of the part from there on: what lies before it does not matter
 abbrev pub ReadsFromHere : Type 0
@@ -22,6 +22,18 @@ SymbolsAlike =
     ((s : List ℕ) (i k : ℕ) → symbolsAt s (i + k) ≡ symbolsAt (drop i s) k)
     × ((s t : List ℕ) (i : ℕ) → i + layout .symbols ≤ length s → symbolsAt (s ++ t) i ≡ symbolsAt s i)
 
--- all three
+-- the bytes wanted, or what is left, are enough: they read as all that follows does, and what is read whole ends behind them
+abbrev pub WantedReads : Type 0
+WantedReads =
+    (s : List ℕ)
+    → (readAt (take (wanted s) s) 0 ≡ readAt s 0)
+    × ((start asked allowed next : ℕ) → readAt s 0 ≡ Order start asked allowed next → next ≡ wanted s)
+    × ((number from next : ℕ) → readAt s 0 ≡ Frame number from next → (next ≡ wanted s) × (symbolsAt (take (wanted s) s) from ≡ symbolsAt s from))
+
+-- the same bytes are wanted once some of them are there: the length alone decides
+abbrev pub WantedAlike : Type 0
+WantedAlike = (s t : List ℕ) → layout .lengthBytes ≤ length s → wanted (s ++ t) ≡ wanted s
+
+-- all of it
 abbrev pub ReadLocal : Type 0
-ReadLocal = ReadsFromHere × ReadsWithMore × SymbolsAlike
+ReadLocal = ReadsFromHere × ReadsWithMore × SymbolsAlike × WantedReads × WantedAlike

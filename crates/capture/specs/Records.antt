@@ -38,18 +38,18 @@ FrameFound =
 -- the frames of a run, whatever stands before and behind: each reads as that frame in its turn, with its number, its symbols and the place of the next
 abbrev pub FramesRead : Type 0
 FramesRead =
-    (start n : ℕ) (frames : ℕ → List ℕ) (before rest : List ℕ) → ((k : ℕ) → k < n → length (frames k) ≡ layout .symbols)
+    (n : ℕ) (numbers : ℕ → ℕ) (frames : ℕ → List ℕ) (before rest : List ℕ) → ((k : ℕ) → k < n → (numbers k < 2 ^ 32) × (length (frames k) ≡ layout .symbols))
     → (k i : ℕ) → k < n → i ≡ length before + k * layout .frameBytes
-    → (readAt (before ++ (frameRecords start frames n ++ rest)) i ≡ Frame ((start + k) % 2 ^ 32) (i + layout .symbolsFrom) (i + layout .frameBytes))
-    × (symbolsAt (before ++ (frameRecords start frames n ++ rest)) (i + layout .symbolsFrom) ≡ frames k)
+    → (readAt (before ++ (frameRecords numbers frames n ++ rest)) i ≡ Frame (numbers k) (i + layout .symbolsFrom) (i + layout .frameBytes))
+    × (symbolsAt (before ++ (frameRecords numbers frames n ++ rest)) (i + layout .symbolsFrom) ≡ frames k)
 
 -- how many bytes they are
 abbrev pub RecordLengths : Type 0
 RecordLengths =
     ((start asked allowed : ℕ) → length (orderRecord start asked allowed) ≡ layout .orderBytes)
     × ((number : ℕ) (symbols : List ℕ) → length symbols ≡ layout .symbols → length (frameRecord number symbols) ≡ layout .frameBytes)
-    × ((start n : ℕ) (frames : ℕ → List ℕ) → ((k : ℕ) → k < n → length (frames k) ≡ layout .symbols)
-    → length (frameRecords start frames n) ≡ n * layout .frameBytes)
+    × ((n : ℕ) (numbers : ℕ → ℕ) (frames : ℕ → List ℕ) → ((k : ℕ) → k < n → length (frames k) ≡ layout .symbols)
+    → length (frameRecords numbers frames n) ≡ n * layout .frameBytes)
 
 -- all of them
 pub record Records : Type 0 where

@@ -2,7 +2,7 @@
 ghost use mathlib.Core.Path.{_≡_};
 ghost use Prim.Native.Nat.{_+_, _<_, _≤_};
 ghost use lib.ListN.{length};
-ghost use Rattle.capture.specs.Capture.{layout, four, refusalAt, orderAt, frameAt, readAt, nextOf, symbolsAt};
+ghost use Rattle.capture.specs.Capture.{layout, four, refusalAt, orderAt, frameAt, readAt, nextOf, symbolsAt, wanted};
 
 // A record's length comes first: its bytes, and the two lengths that are admitted.
 const LENGTH_BYTES: usize = 4;
@@ -38,7 +38,8 @@ const SYMBOLS_FROM: usize = 10;
 
 const SYMBOLS: usize = 6144;
 
-const FRAME_BYTES: usize = 6154;
+// The longest record.
+pub const FRAME_BYTES: usize = 6154;
 
 // What stands at a place: the end, a refusal by its number, an order, or a frame with the place from which its symbols lie; and the next place.
 pub enum Read {
@@ -156,6 +157,23 @@ pub fn symbols_at(capture: &[u8], from: usize) -> &[u8]
     }
     let end = from + SYMBOLS;
     &capture[from..end]
+}
+
+// How many bytes of a record to ask for, by those that are there: its length first, then all of it.
+pub fn wanted(piece: &[u8]) -> usize
+    ensures { λ r. ⌜ r ≡ wanted (now (piece .entry)) ⌝ }
+{
+    if piece.len() < LENGTH_BYTES {
+        return LENGTH_BYTES;
+    }
+    let length = four(piece, 0);
+    if length == ORDER_LENGTH {
+        return ORDER_BYTES;
+    }
+    if length == FRAME_LENGTH {
+        return FRAME_BYTES;
+    }
+    LENGTH_BYTES
 }
 
 // The place after what was read: neither the end nor a refusal moves it.

@@ -7,5 +7,9 @@ pub mod Totals
 pub mod Labels
 pub mod ReedSolomon
 pub mod Exceeded
+pub mod Measured
+pub mod Walked
+pub mod Lines
+pub mod Verdict
 pub mod Theorems
 pub mod Empty

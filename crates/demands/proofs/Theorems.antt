@@ -1,10 +1,11 @@
--- The demands over streams, all of them proved.
+-- The demands over streams and captures, all of them proved.
 -- Assumes nothing.
 use Rattle.demands.specs.Demands.{Demands}
 use Rattle.demands.proofs.Return.{return, one-frame}
 use Rattle.demands.proofs.Trial.{refused-exactly, flips-counted, trials-exist, undamaged-exist}
 use Rattle.demands.proofs.OneForAll.{one-for-all, two-flips}
 use Rattle.demands.proofs.Tallies.{tallies-alike}
+use Rattle.demands.proofs.Verdict.{pass-exactly, fail-exactly, not-measured-exactly, program-says, measured-once, reports-exist, never-pass, all-counted}
 use Rattle.demands.proofs.Labels.{spans-label}
 use Rattle.demands.proofs.ReedSolomon.{carries-exactly, reed-solomon-bound, four-pairs}
 use Rattle.demands.proofs.Exceeded.{spans-exist, other-places, other-pairs}
@@ -16,6 +17,14 @@ demands =
       oneFrame = one-frame;
       undamaged = undamaged-exist;
       twoFlips = two-flips;
+      pass = pass-exactly;
+      fail = fail-exactly;
+      notMeasured = not-measured-exactly;
+      program = program-says;
+      oneMeaning = measured-once;
+      reports = reports-exist;
+      neverPass = never-pass;
+      allCounted = all-counted;
       oneForAll = one-for-all;
       tallies = tallies-alike;
       trials = trials-exist;

@@ -1,9 +1,10 @@
--- The demands over streams, all of them on one page: `proofs/Theorems` has a value of it.
+-- The demands over streams and captures, all of them on one page: `proofs/Theorems` has a value of it.
 -- Assumes nothing.
 use Rattle.demands.specs.Return.{Return, UndamagedExist, OneFrame}
 use Rattle.demands.specs.Trial.{FlipsCounted, RefusedExactly, TrialsExist}
 use Rattle.demands.specs.OneForAll.{OneForAll, TwoFlips}
 use Rattle.demands.specs.Tallies.{TalliesAlike}
+use Rattle.demands.specs.Verdict.{PassExactly, FailExactly, NotMeasuredExactly, ProgramSays, MeasuredOnce, ReportsExist, NeverPass, AllCounted}
 use Rattle.demands.specs.ReedSolomon.{SpansExist, SpansLabel, CarriesExactly, ReedSolomonBound, FourPairs, OtherPlaces, OtherPairs}
 
 -- demands 2 and 3, sentence by sentence
@@ -14,6 +15,15 @@ pub record Demands : Type 0 where
   pub undamaged : UndamagedExist
   -- demand 2: at most two flips in a word are mended
   pub twoFlips : TwoFlips
+  -- demand 2: PASS exactly if; FAIL likewise; and everything else; what the program prints; that a capture has one meaning and a report; and what an examiner may read from it
+  pub pass : PassExactly
+  pub fail : FailExactly
+  pub notMeasured : NotMeasuredExactly
+  pub program : ProgramSays
+  pub oneMeaning : MeasuredOnce
+  pub reports : ReportsExist
+  pub neverPass : NeverPass
+  pub allCounted : AllCounted
   -- demand 3, first half, through the account too; and that there are trials, what they are refused by, and what counts as a flip
   pub oneForAll : OneForAll
   pub tallies : TalliesAlike

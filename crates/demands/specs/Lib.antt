@@ -3,4 +3,5 @@ pub mod Trial
 pub mod OneForAll
 pub mod Tallies
 pub mod ReedSolomon
+pub mod Verdict
 pub mod Demands

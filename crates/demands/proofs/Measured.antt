@@ -1,0 +1,206 @@
+-- A measured capture and its run: frames in their turn are entered one by one, and a run that loses its turn once is never measured.
+-- Assumes nothing.
+use mathlib.Core.Path.{_≡_, refl, sym, ap, _∙_, subst}
+use mathlib.Core.Bool.{Bool, true, false, cond, false≢true}
+use mathlib.Core.Logic.{_≢_, _⊎_, inl, inr}
+use mathlib.Core.List.{List, [], _∷_, _++_, append-assoc}
+use Prim.Native.Nat.{ℕ, zero, suc, _+_, _*_, _-_, _%_, _^_, _≤_, _<_}
+use native.Mathlib.Decide.{ℕ-discrete}
+use native.Mathlib.Omega.{arith}
+use lib.Dec.{eqb}
+use lib.ListN.{length, getD, drop, replicate, length-append}
+use borrow.Author.Tests.{eq-eqb, ne-eqb}
+use Rattle.bits.specs.Bits.{count}
+use Rattle.bits.proofs.Count.{count-cong}
+use Rattle.bch.specs.declared.Mend.{Mend}
+use Rattle.bch.specs.declared.Mend.the-variants.{Clean, One, Two, Flagged}
+use Rattle.bch.specs.Mend.{mend, flagOf}
+use Rattle.symbols.specs.Frame.{arrived}
+use Rattle.symbols.specs.Pilots.{locks}
+use Rattle.framing.specs.Receive.{receivedStore, receivedFlags}
+use Rattle.framing.proofs.Received.{flag-at}
+use Rattle.account.specs.declared.Account.{Account}
+use Rattle.account.specs.declared.Entry.{Entry}
+use Rattle.account.specs.declared.Tallies.{Tallies}
+use Rattle.account.specs.Account.{frameLimit, tallyLimit, total, opened, counted, talliesOf, ahead, late, over, grown, withFrame, withLoss, frameEntered, lossEntered, measured}
+use Rattle.account.proofs.Limits.{under, within}
+use Rattle.account.proofs.Entered.{frame-done}
+use Rattle.account.proofs.Taken.{frame-taken, loss-taken}
+use Rattle.account.proofs.Judged.{MeasuredNumbers, measured-means}
+use Rattle.account.proofs.Kept.{brings}
+use Rattle.capture.specs.declared.Read.{Read}
+use Rattle.capture.specs.declared.Read.the-variants.{End, Refused, Order, Frame}
+use Rattle.capture.specs.Capture.{readAt, nextOf, symbolsAt, inTurn}
+use Rattle.bench.specs.declared.Run.{Run}
+use Rattle.bench.specs.declared.Phase.{Phase}
+use Rattle.bench.specs.declared.Phase.the-variants.{Unordered, Going, Stopped}
+use Rattle.bench.specs.Run.{State, noted, framed, orderCame, frameCame, halted, cameAs, goesOn}
+use Rattle.bench.specs.Walk.{walked}
+use Rattle.bench.proofs.Walk.{came-stays, refused-stops}
+use Rattle.demands.specs.Verdict.{wordsWith, wordsIn}
+
+-- ---- the words of a frame, counted
+
+flag-most : (m : Mend) → flagOf m ≤ 3
+unfolding flagOf
+flag-most Clean = omega arith
+flag-most (One i) = omega arith
+flag-most (Two i j) = omega arith
+flag-most Flagged = omega arith
+
+counts : (a : Account) (got : ℕ) (f : List ℕ) (v : ℕ) → counted a got (receivedFlags f) v ≡ wordsWith v f
+unfolding counted wordsWith
+counts a got f v = count-cong 384 _ _ (λ i l. ap (λ (x : ℕ). eqb x v) (flag-at f i l))
+
+abbrev pub frameTallies : List ℕ → Tallies
+frameTallies f = record { clean = wordsWith 0 f; one = wordsWith 1 f; two = wordsWith 2 f; flagged = wordsWith 3 f }
+
+abbrev pub allTallies : (ℕ → List ℕ) → ℕ → Tallies
+allTallies frames k = record { clean = wordsIn 0 frames k; one = wordsIn 1 frames k; two = wordsIn 2 frames k; flagged = wordsIn 3 frames k }
+
+tallies-are : (a : Account) (got : ℕ) (f : List ℕ) → talliesOf a got (receivedFlags f) ≡ frameTallies f
+tallies-are a got f = rw (counts a got f 0, counts a got f 1, counts a got f 2, counts a got f 3) refl
+
+words-due : (f : List ℕ) → total (frameTallies f) ≡ 384
+words-due f =
+    ap total (sym (tallies-are (opened 0) 0 f)) ∙ brings (opened 0) 0 (receivedFlags f) (λ i l. rw (flag-at f i l) (flag-most (mend (arrived f i))))
+
+pub all-words : (frames : ℕ → List ℕ) (k : ℕ) → total (allTallies frames k) ≡ 384 * k
+unfolding wordsIn
+all-words frames zero = refl
+all-words frames (suc k) = omega (arith, all-words frames k, words-due (frames k))
+
+-- ---- frames in their turn
+
+-- the store after k frames from a fresh one
+unfoldable pub storeAfter : (ℕ → List ℕ) → ℕ → List ℕ
+storeAfter frames zero = replicate 2880 0
+storeAfter frames (suc k) = receivedStore (frames k) (storeAfter frames k)
+
+module _ (start : ℕ) (frames : ℕ → List ℕ) where
+  -- the account after k frames in their turn
+  abbrev pub allAccepted : ℕ → Account
+  allAccepted k = record { expected = inTurn start k; accepted = k; missing = 0; words = allTallies frames k }
+
+  in-turn : (k : ℕ) → _≡_ {A = ℕ} 0 (ahead (inTurn start k) (inTurn start k))
+  unfolding ahead
+  in-turn k = omega arith
+
+  next-account : (k : ℕ) → allAccepted (suc k) ≡ grown (allAccepted k) (inTurn start k) 1 0 (frameTallies (frames k))
+  unfolding wordsIn
+  next-account k =
+      let e : inTurn start (suc k) ≡ (inTurn start k + 1) % 2 ^ 32 = omega arith in
+      let n : suc k ≡ k + 1 = omega arith in
+      λ i. record { expected = e i; accepted = n i; missing = 0; words = allTallies frames (suc k) }
+
+  entered-next : (k : ℕ) → k < frameLimit → record { refusal = 0; account = allAccepted (suc k) } ≡ frameEntered (allAccepted k) (inTurn start k) (frameTallies (frames k))
+  entered-next k h =
+      frame-done (allAccepted k) (inTurn start k) 0 (in-turn k) (frameTallies (frames k)) refl false true (sym limits) refl (sym (eq-eqb (total (frameTallies (frames k))) 384 (words-due (frames k)))) (allAccepted (suc k))
+      (next-account k) refl
+    where
+      limits : over (grown (allAccepted k) (inTurn start k) 1 0 (frameTallies (frames k))) ≡ false
+      limits =
+          let a = all-words frames k in
+          let d = words-due (frames k) in
+          within (grown (allAccepted k) (inTurn start k) 1 0 (frameTallies (frames k))) (omega arith) (omega arith) (omega arith) (omega arith) (omega arith) (omega arith)
+
+module _ (start asked allowed : ℕ) (frames : ℕ → List ℕ) where
+  -- the run after an order and k frames in their turn
+  abbrev pub after : ℕ → State
+  after k = record { run = record { phase = Going; asked = asked; allowed = allowed; account = allAccepted start frames k }; store = storeAfter frames k }
+
+  pub framed-next : (k : ℕ) → k < frameLimit → locks (frames k) 0 ≡ true → framed (after k) (inTurn start k) (frames k) ≡ after (suc k)
+  unfolding framed storeAfter
+  framed-next k h l = rw (l, tallies-are (allAccepted start frames k) (inTurn start k) (frames k), sym (entered-next start frames k h)) refl
+
+-- ---- a run that loses its turn once
+
+-- stopped, or with a frame missing
+abbrev pub Lost : State → Type 0
+Lost st = (st .run .phase ≡ Stopped) ⊎ ((st .run .phase ≡ Going) × (1 ≤ st .run .account .missing))
+
+-- an entry in a run that goes on: it is refused and stops the run, or the account has the frames missing that it should have
+noted-lost : (st : State) (e : Entry) (s : List ℕ) → (e .refusal ≡ 0 → 1 ≤ e .account .missing) → Lost (noted st e s)
+noted-lost st e s h = go (ℕ-discrete (e .refusal) 0)
+  where
+    go : Dec (e .refusal ≡ 0) → Lost (noted st e s)
+    go (yes z) = rw z (inr (refl, h z))
+    go (no n) = rw (ne-eqb (e .refusal) 0 n) (inl refl)
+
+frame-missing : (a : Account) (got : ℕ) (t : Tallies) → 1 ≤ a .missing + ahead got (a .expected) → frameEntered a got t .refusal ≡ 0 → 1 ≤ frameEntered a got t .account .missing
+frame-missing a got t h z = rw (frame-taken a got t z .taken) h
+
+loss-missing : (a : Account) (got : ℕ) → lossEntered a got .refusal ≡ 0 → 1 ≤ lossEntered a got .account .missing
+loss-missing a got z = rw (loss-taken a got z .taken) (omega arith)
+
+framed-lost : (st : State) (got : ℕ) (f : List ℕ) → (1 ≤ st .run .account .missing + ahead got (st .run .account .expected)) ⊎ (locks f 0 ≡ false) → Lost (framed st got f)
+unfolding framed
+framed-lost st got f h = go (locks f 0) refl h
+  where
+    lost : Lost (noted st (lossEntered (st .run .account) got) (st .store))
+    lost = noted-lost st (lossEntered (st .run .account) got) (st .store) (loss-missing (st .run .account) got)
+
+    go : (l : Bool) → locks f 0 ≡ l → (1 ≤ st .run .account .missing + ahead got (st .run .account .expected)) ⊎ (locks f 0 ≡ false) → Lost (framed st got f)
+    go false e c = rw e lost
+    go true e (inl m) =
+        rw e
+        (noted-lost st (frameEntered (st .run .account) got (talliesOf (st .run .account) got (receivedFlags f))) (receivedStore f (st .store))
+        (frame-missing (st .run .account) got (talliesOf (st .run .account) got (receivedFlags f)) m))
+    go true e (inr n) = absurd (false≢true (sym n ∙ e))
+
+came-lost : (read : Read) (st : State) (s : List ℕ) → st .run .phase ≡ Going → 1 ≤ st .run .account .missing → Lost (cameAs read st s)
+unfolding cameAs orderCame frameCame
+came-lost End st s g m = inr (g, m)
+came-lost (Refused refusal) st s g m = inl (refused-stops st s refusal)
+came-lost (Order start asked allowed next) st s g m = rw g (inl refl)
+came-lost (Frame number from next) st s g m = subst (λ (p : Phase). Lost (frameCame p st number (symbolsAt s from))) (sym g) (framed-lost st number (symbolsAt s from) (inl (omega arith)))
+
+-- never finds it again
+pub walked-lost : (n : ℕ) (s : List ℕ) (i : ℕ) (st : State) → Lost st → Lost (walked n s i st)
+unfolding walked
+walked-lost zero s i st h = h
+walked-lost (suc n) s i st (inl p) = walked-lost n s (nextOf (readAt s i) i) (cameAs (readAt s i) st s) (rw (came-stays st p (readAt s i) s) (inl p))
+walked-lost (suc n) s i st (inr (g, m)) = walked-lost n s (nextOf (readAt s i) i) (cameAs (readAt s i) st s) (came-lost (readAt s i) st s g m)
+
+-- and is never measured
+pub lost-never : (st : State) (asked : ℕ) → Lost st → goesOn (st .run .phase) ≡ true → measured asked (st .run .account) ≡ true → ⊥
+unfolding goesOn
+lost-never st asked (inl p) g m = false≢true (ap goesOn (sym p) ∙ g)
+lost-never st asked (inr (q, h)) g m = let z = measured-means asked (st .run .account) m .none-missing in omega arith
+
+-- a number that is not the expected one lies ahead of it
+other : (number m : ℕ) → number < 2 ^ 32 → number ≢ m % 2 ^ 32 → 1 ≤ 0 + ahead number (m % 2 ^ 32)
+unfolding ahead
+other number m h n = at (ℕ-discrete ((number + (2 ^ 32 - m % 2 ^ 32)) % 2 ^ 32) 0)
+  where
+    at : Dec ((number + (2 ^ 32 - m % 2 ^ 32)) % 2 ^ 32 ≡ 0) → 1 ≤ 0 + (number + (2 ^ 32 - m % 2 ^ 32)) % 2 ^ 32
+    at (yes z) = absurd (n (omega arith))
+    at (no z) = omega arith
+
+-- a refused frame stops the run
+refused-lost : (st : State) (got : ℕ) (f : List ℕ) → locks f 0 ≡ true → frameEntered (st .run .account) got (talliesOf (st .run .account) got (receivedFlags f)) .refusal ≢ 0
+    → Lost (framed st got f)
+unfolding framed
+refused-lost st got f l n = rw (l, ne-eqb _ 0 n) (inl refl)
+
+-- a frame that comes after k frames in their turn: it is the next one, or the turn is lost
+module _ (start asked allowed : ℕ) (frames : ℕ → List ℕ) where
+  pub next-or-lost : (k number : ℕ) (f : List ℕ) → number < 2 ^ 32
+      → Lost (framed (after start asked allowed frames k) number f) ⊎ ((number ≡ inTurn start k) × (locks f 0 ≡ true) × (k < frameLimit))
+  next-or-lost k number f h = go (locks f 0) refl (ℕ-discrete number (inTurn start k)) (ℕ-discrete (e .refusal) 0)
+    where
+      a : Account
+      a = allAccepted start frames k
+
+      e : Entry
+      e = frameEntered a number (talliesOf a number (receivedFlags f))
+
+      ahead-of : number ≢ inTurn start k → 1 ≤ 0 + ahead number (inTurn start k)
+      ahead-of n = other number (start + k) h n
+
+      go : (l : Bool) → locks f 0 ≡ l → Dec (number ≡ inTurn start k) → Dec (e .refusal ≡ 0)
+          → Lost (framed (after start asked allowed frames k) number f) ⊎ ((number ≡ inTurn start k) × (locks f 0 ≡ true) × (k < frameLimit))
+      go false l d r = inl (framed-lost (after start asked allowed frames k) number f (inr l))
+      go true l (no n) r = inl (framed-lost (after start asked allowed frames k) number f (inl (ahead-of n)))
+      go true l (yes n) (yes z) = inr (n, l, (let u = under _ (frame-taken a number (talliesOf a number (receivedFlags f)) z .within) .0 in omega arith))
+      go true l (yes n) (no z) = inl (refused-lost (after start asked allowed frames k) number f l z)

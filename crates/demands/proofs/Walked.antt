@@ -1,0 +1,235 @@
+-- The walk over a measured capture, and back: a run that goes on to the end and is measured has walked over one.
+-- Assumes nothing.
+use mathlib.Core.Path.{_≡_, refl, sym, ap, _∙_, subst}
+use mathlib.Core.Bool.{true, false≢true}
+use mathlib.Core.Logic.{_⊎_, inl, inr}
+use mathlib.Core.List.{List, [], _∷_, _++_, append-assoc, append-nil}
+use Prim.Native.Nat.{ℕ, zero, suc, _+_, _*_, _-_, _%_, _^_, _≤_, _<_}
+use native.Mathlib.Decide.{decLt}
+use native.Mathlib.Omega.{arith}
+use lib.ListN.{length, getD, drop, replicate, length-append, length-drop}
+use lib.Seq.{drop-drop, getD-drop}
+use Rattle.bits.proofs.Fields.{Bytes}
+use Rattle.symbols.specs.Pilots.{locks}
+use Rattle.account.specs.Account.{frameLimit, opened, noWords, measured}
+use Rattle.account.proofs.Judged.{measured-means}
+use Rattle.capture.specs.declared.Read.{Read}
+use Rattle.capture.specs.declared.Read.the-variants.{End, Refused, Order, Frame}
+use Rattle.capture.specs.Capture.{layout, readAt, nextOf, moved, symbolsAt, orderRecord, frameRecord, inTurn, frameRecords}
+use Rattle.capture.proofs.Cases.{at-end}
+use Rattle.capture.proofs.Found.{order-found, frame-found}
+use Rattle.capture.proofs.Local.{reads-from-here, symbols-here}
+use Rattle.capture.proofs.Records.{records}
+use Rattle.bench.specs.declared.Run.{Run}
+use Rattle.bench.specs.declared.Phase.{Phase}
+use Rattle.bench.specs.declared.Phase.the-variants.{Unordered, Going, Stopped}
+use Rattle.bench.specs.Run.{State, begun, fresh, framed, orderCame, frameCame, cameAs, goesOn}
+use Rattle.bench.specs.Walk.{walked, examined}
+use Rattle.bench.proofs.Walk.{walked-one, walked-end, end, none-left, refused-stops}
+use Rattle.demands.specs.Verdict.{wordsIn, Measured, measuredRun}
+use Rattle.demands.proofs.Measured.{storeAfter, allAccepted, after, framed-next, Lost, walked-lost, lost-never, next-or-lost}
+
+-- where frame k of a measured capture stands
+abbrev pub framePlace : ℕ → ℕ
+framePlace k = layout .orderBytes + k * layout .frameBytes
+
+-- the run after an order
+module _ (start asked allowed : ℕ) (frames : ℕ → List ℕ) (h : start < 2 ^ 32) where
+  pub ordered-first : (s : List ℕ) (next : ℕ) → cameAs (Order start asked allowed next) fresh s ≡ after start asked allowed frames 0
+  unfolding cameAs orderCame storeAfter wordsIn
+  ordered-first s next =
+      let e : start ≡ inTurn start 0 = omega arith in
+      λ i. record { run = record { phase = Going; asked = asked; allowed = allowed; account = record { expected = e i; accepted = 0; missing = 0; words = noWords } }; store = replicate 2880 0 }
+
+-- ---- over a measured capture
+
+module _ (start asked allowed : ℕ) (frames : ℕ → List ℕ) (hs : start < 2 ^ 32) (ha : asked < 2 ^ 32) (hw : allowed < 2 ^ 32) (limit : asked ≤ frameLimit)
+    (whole : (k : ℕ) → k < asked → length (frames k) ≡ layout .symbols) (locked : (k : ℕ) → k < asked → locks (frames k) 0 ≡ true) where
+  abbrev bytes : List ℕ
+  bytes = orderRecord start asked allowed ++ (frameRecords (inTurn start) frames asked ++ [])
+
+  bytes-length : length bytes ≡ framePlace asked
+  bytes-length =
+      length-append (orderRecord start asked allowed) (frameRecords (inTurn start) frames asked ++ [])
+      ∙ (let o = records .recordLengths .0 start asked allowed in
+      let f = records .recordLengths .2 asked (inTurn start) frames whole in
+      let n : length (frameRecords (inTurn start) frames asked ++ []) ≡ length (frameRecords (inTurn start) frames asked) + 0 = length-append (frameRecords (inTurn start) frames asked) [] in omega arith)
+
+  walks-on : (j n k : ℕ) → k + j ≡ asked → j ≤ n → walked n bytes (framePlace k) (after start asked allowed frames k) ≡ after start asked allowed frames asked
+  unfolding cameAs frameCame
+  walks-on zero n k e h =
+      let q : k ≡ asked = omega arith in
+      walked-end n bytes (framePlace k) (after start asked allowed frames k) (sym (at-end bytes (framePlace k) (let l = bytes-length in omega arith))) ∙ ap (after start asked allowed frames) q
+  walks-on (suc j) zero k e h = absurd (omega arith)
+  walks-on (suc j) (suc n) k e h =
+      let R = records .framesRead asked (inTurn start) frames (orderRecord start asked allowed) [] (λ i l. (omega arith, whole i l)) k (framePlace k) (omega arith) (let o = records .recordLengths .0 start asked allowed in omega arith) in
+      let next : framePlace k + layout .frameBytes ≡ framePlace (suc k) = omega arith in
+      walked-one n bytes (framePlace k) (after start asked allowed frames k) _ (R .0)
+      ∙ (λ i. walked n bytes (next i) ((ap (framed (after start asked allowed frames k) (inTurn start k)) (R .1) ∙ framed-next start asked allowed frames k (omega arith) (locked k (omega arith))) i))
+      ∙ walks-on j n (suc k) (omega arith) (omega arith)
+
+  measured-state : examined bytes ≡ after start asked allowed frames asked
+  unfolding examined
+  measured-state =
+      let l : length bytes ≡ suc (17 + asked * layout .frameBytes) = bytes-length ∙ (omega arith) in
+      ap (λ (m : ℕ). walked m bytes 0 fresh) l
+      ∙ walked-one (17 + asked * layout .frameBytes) bytes 0 fresh _ (records .orderReads start asked allowed (frameRecords (inTurn start) frames asked ++ []) hs ha hw)
+      ∙ ap (walked (17 + asked * layout .frameBytes) bytes (layout .orderBytes)) (ordered-first start asked allowed frames hs bytes (layout .orderBytes))
+      ∙ walks-on asked (17 + asked * layout .frameBytes) 0 (omega arith) (omega arith)
+
+-- any capture that was measured
+pub measured-run : (s : List ℕ) (m : Measured s) → examined s .run ≡ measuredRun m
+measured-run s m =
+    ap (λ (x : List ℕ). examined x .run) (m .capture ∙ ap (λ (l : List ℕ). orderRecord (m .start) (m .asked) (m .allowed) ++ l) (sym (append-nil (frameRecords (inTurn (m .start)) (m .frames) (m .asked)))))
+    ∙ ap (λ (st : State). st .run)
+    (measured-state (m .start) (m .asked) (m .allowed) (m .frames) (m .numbers .0) (m .numbers .1) (m .numbers .2) (m .within) (m .whole) (m .locked))
+
+-- ---- and back
+
+bytes-drop : (s : List ℕ) (i : ℕ) → Bytes s → Bytes (drop i s)
+bytes-drop s i B = record { byte = λ k. rw (getD-drop i s k 0) (B .byte (i + k)) }
+
+-- the symbols that stand where frame k should
+framesIn : List ℕ → ℕ → List ℕ
+framesIn s k = symbolsAt s (framePlace k + layout .symbolsFrom)
+
+-- so far the capture is an order and k frames in their turn
+record SoFar (s : List ℕ) (start asked allowed k : ℕ) : Type 0 where
+  pub within : k ≤ frameLimit
+  pub inside : framePlace k ≤ length s
+  pub whole : (j : ℕ) → j < k → length (framesIn s j) ≡ layout .symbols
+  pub locked : (j : ℕ) → j < k → locks (framesIn s j) 0 ≡ true
+  pub capture : s ≡ orderRecord start asked allowed ++ (frameRecords (inTurn start) (framesIn s) k ++ drop (framePlace k) s)
+
+-- what holds of the first k and of the next holds of one more
+up-to : {P : ℕ → Type 0} (k : ℕ) → ((j : ℕ) → j < k → P j) → P k → (j : ℕ) → j < suc k → P j
+up-to {P} k h p j l = at (decLt j k)
+  where
+    at : Dec (j < k) → P j
+    at (yes m) = h j m
+    at (no m) = subst P (omega arith) p
+
+-- what a walk that goes on to the end, and is measured, comes to
+abbrev Comes : List ℕ → State → Type 0
+Comes s st = goesOn (st .run .phase) ≡ true → measured (st .run .asked) (st .run .account) ≡ true → Measured s
+
+lost-comes : (s : List ℕ) (st : State) → Lost st → Comes s st
+lost-comes s st l g m = absurd (lost-never st (st .run .asked) l g m)
+
+stopped-comes : (s : List ℕ) (n i : ℕ) (st : State) → st .run .phase ≡ Stopped → Comes s (walked n s i st)
+stopped-comes s n i st h = lost-comes s (walked n s i st) (walked-lost n s i st (inl h))
+
+module _ (s : List ℕ) (B : Bytes s) (start asked allowed : ℕ) (hs : start < 2 ^ 32) (ha : asked < 2 ^ 32) (hw : allowed < 2 ^ 32) where
+  -- at the end
+  at-last : (k : ℕ) → SoFar s start asked allowed k → length s ≤ framePlace k → measured asked (allAccepted start (framesIn s) k) ≡ true → Measured s
+  at-last k F h m =
+      let M = measured-means asked (allAccepted start (framesIn s) k) m in
+      let all : k ≡ asked = M .all in
+      record {
+        start = start;
+        asked = asked;
+        allowed = allowed;
+        frames = framesIn s;
+        numbers = (hs, ha, hw);
+        some = M .some;
+        within = subst (λ (n : ℕ). n ≤ frameLimit) all (F .within);
+        whole = subst (λ (n : ℕ). (j : ℕ) → j < n → length (framesIn s j) ≡ layout .symbols) all (F .whole);
+        locked = subst (λ (n : ℕ). (j : ℕ) → j < n → locks (framesIn s j) 0 ≡ true) all (F .locked);
+        capture =
+            F .capture
+            ∙ ap (λ (l : List ℕ). orderRecord start asked allowed ++ l)
+            (ap (λ (l : List ℕ). frameRecords (inTurn start) (framesIn s) k ++ l) (none-left (framePlace k) s h)
+            ∙ append-nil (frameRecords (inTurn start) (framesIn s) k) ∙ ap (frameRecords (inTurn start) (framesIn s)) all);
+      }
+
+  -- one frame more
+  module _ (k number from next : ℕ) (F : SoFar s start asked allowed k) (read : readAt (drop (framePlace k) s) 0 ≡ Frame number from next) where
+    abbrev rest : List ℕ
+    rest = drop (framePlace k) s
+
+    found : (number < 2 ^ 32) × (from ≡ layout .symbolsFrom) × (next ≡ layout .frameBytes) × (length (symbolsAt rest from) ≡ layout .symbols) × (rest ≡ frameRecord number (symbolsAt rest from) ++ drop next rest)
+    found = records .frameFound rest number from next (bytes-drop s (framePlace k) B) read
+
+    symbols : symbolsAt rest from ≡ framesIn s k
+    unfolding framesIn
+    symbols = sym (symbols-here s (framePlace k) from) ∙ ap (λ (i : ℕ). symbolsAt s (framePlace k + i)) (found .1)
+
+    moves : framePlace k + next ≡ framePlace (suc k)
+    moves = let e = found .2 in omega arith
+
+    one-more : number ≡ inTurn start k → locks (framesIn s k) 0 ≡ true → k < frameLimit → SoFar s start asked allowed (suc k)
+    unfolding frameRecords
+    one-more n l h =
+        record {
+          within = h;
+          inside = let w = frame-found rest 0 read .whole .inside in let d = length-drop (framePlace k) s in let i = F .inside in omega arith;
+          whole = up-to k (F .whole) (ap length (sym symbols) ∙ found .3);
+          locked = up-to k (F .locked) l;
+          capture =
+              F .capture
+              ∙ ap (λ (x : List ℕ). orderRecord start asked allowed ++ x)
+              (ap (λ (x : List ℕ). frameRecords (inTurn start) (framesIn s) k ++ x) (found .4 ∙ (λ i. frameRecord (n i) (symbols i) ++ (drop-drop next (framePlace k) s ∙ ap (λ (p : ℕ). drop p s) moves) i))
+              ∙ sym (append-assoc (frameRecords (inTurn start) (framesIn s) k) (frameRecord (inTurn start k) (framesIn s k)) (drop (framePlace (suc k)) s)));
+        }
+
+  back : (n k : ℕ) → length s ≤ framePlace k + n → SoFar s start asked allowed k → Comes s (walked n s (framePlace k) (after start asked allowed (framesIn s) k))
+  unfolding walked moved cameAs orderCame frameCame
+  back zero k e F = λ g m. at-last k F (omega arith) m
+  back (suc n) k e F = go (readAt (drop (framePlace k) s) 0) refl (back n (suc k) (omega arith))
+    where
+      st : State
+      st = after start asked allowed (framesIn s) k
+
+      there : (r : Read) → readAt (drop (framePlace k) s) 0 ≡ r → readAt s (framePlace k) ≡ moved (framePlace k) r
+      there r q = reads-from-here s (framePlace k) ∙ ap (moved (framePlace k)) q
+
+      here : (r : Read) → readAt (drop (framePlace k) s) 0 ≡ r → walked (suc n) s (framePlace k) st ≡ walked n s (nextOf (moved (framePlace k) r) (framePlace k)) (cameAs (moved (framePlace k) r) st s)
+      here r q = walked-one n s (framePlace k) st (moved (framePlace k) r) (there r q)
+
+      frame : (number from next : ℕ) → readAt (drop (framePlace k) s) 0 ≡ Frame number from next
+          → Lost (framed st number (framesIn s k)) ⊎ ((number ≡ inTurn start k) × (locks (framesIn s k) 0 ≡ true) × (k < frameLimit))
+          → (SoFar s start asked allowed (suc k) → Comes s (walked n s (framePlace (suc k)) (after start asked allowed (framesIn s) (suc k))))
+          → Comes s (walked n s (framePlace k + next) (framed st number (symbolsAt s (framePlace k + from))))
+      frame number from next q (inl l) IH =
+          subst (λ (f : List ℕ). Comes s (walked n s (framePlace k + next) (framed st number f))) (sym (symbols-here s (framePlace k) from ∙ symbols k number from next F q))
+          (lost-comes s (walked n s (framePlace k + next) (framed st number (framesIn s k))) (walked-lost n s (framePlace k + next) (framed st number (framesIn s k)) l))
+      frame number from next q (inr (t, l, h)) IH =
+          subst (Comes s)
+          (sym (λ i. walked n s (moves k number from next F q i) ((ap (framed st number) (symbols-here s (framePlace k) from ∙ symbols k number from next F q) ∙ ap (λ (x : ℕ). framed st x (framesIn s k)) t ∙ framed-next start asked allowed (framesIn s) k h l) i)))
+          (IH (one-more k number from next F q t l h))
+
+      go : (r : Read) → readAt (drop (framePlace k) s) 0 ≡ r → (SoFar s start asked allowed (suc k) → Comes s (walked n s (framePlace (suc k)) (after start asked allowed (framesIn s) (suc k))))
+          → Comes s (walked (suc n) s (framePlace k) st)
+      go End q IH = subst (Comes s) (sym (walked-end (suc n) s (framePlace k) st (there End q))) (λ g m. at-last k F (end s (framePlace k) (there End q)) m)
+      go (Refused refusal) q IH = subst (Comes s) (sym (here (Refused refusal) q)) (stopped-comes s n (framePlace k) (cameAs (Refused refusal) st s) (refused-stops st s refusal))
+      go (Order start′ asked′ allowed′ next) q IH = subst (Comes s) (sym (here (Order start′ asked′ allowed′ next) q)) (stopped-comes s n (framePlace k + next) (cameAs (Order start′ asked′ allowed′ (framePlace k + next)) st s) refl)
+      go (Frame number from next) q IH =
+          subst (Comes s) (sym (here (Frame number from next) q))
+          (frame number from next q (next-or-lost start asked allowed (framesIn s) k number (framesIn s k) (found k number from next F q .0)) IH)
+
+-- from the first record on: an order, or nothing is measured
+from-order : (s : List ℕ) → Bytes s → (n : ℕ) → length s ≤ n → Comes s (walked n s 0 fresh)
+unfolding walked goesOn cameAs frameCame frameRecords
+from-order s B zero h = λ g m. absurd (false≢true g)
+from-order s B (suc n) h = go (readAt s 0) refl
+  where
+    go : (r : Read) → readAt s 0 ≡ r → Comes s (walked (suc n) s 0 fresh)
+    go End q = subst (Comes s) (sym (walked-end (suc n) s 0 fresh q)) (λ g m. absurd (false≢true g))
+    go (Refused refusal) q = subst (Comes s) (sym (walked-one n s 0 fresh (Refused refusal) q)) (stopped-comes s n 0 (cameAs (Refused refusal) fresh s) (refused-stops fresh s refusal))
+    go (Frame number from next) q = subst (Comes s) (sym (walked-one n s 0 fresh (Frame number from next) q)) (stopped-comes s n next (cameAs (Frame number from next) fresh s) refl)
+    go (Order start asked allowed next) q =
+        let O = records .orderFound s start asked allowed next B q in
+        let at : next ≡ framePlace 0 = O .3 in
+        subst (Comes s) (sym (walked-one n s 0 fresh (Order start asked allowed next) q ∙ (λ i. walked n s (at i) (ordered-first start asked allowed (framesIn s) (O .0) s next i))))
+        (back s B start asked allowed (O .0) (O .1) (O .2) n 0 (omega arith)
+        (record {
+          within = omega arith;
+          inside = let w = order-found s 0 q .whole .inside in omega arith;
+          whole = λ j l. absurd (omega arith);
+          locked = λ j l. absurd (omega arith);
+          capture = O .4 ∙ ap (λ (i : ℕ). orderRecord start asked allowed ++ drop i s) at;
+        }))
+
+pub measured-back : (s : List ℕ) → Bytes s → goesOn (examined s .run .phase) ≡ true → measured (examined s .run .asked) (examined s .run .account) ≡ true → Measured s
+unfolding examined
+measured-back s B = from-order s B (length s) (omega arith)

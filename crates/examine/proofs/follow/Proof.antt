@@ -1,0 +1,83 @@
+-- `examine::follow` meets its contract and ends: each record uses up some of what the limits on accepted and missing frames leave.
+-- Assumes nothing.
+use mathlib.Core.Path.{_≡_, refl, sym}
+use borrow.Author.Needs.{needs}
+use lib.ListN.{length}
+use Rattle.capture.specs.Capture.{layout}
+use Rattle.bench.proofs.Left.{leftOf}
+use Rattle.examine.proofs.Reading.{Reading, answers, answers-failed, reading-starts, reading-goes, reading-less}
+use Rattle.examine.proofs.follow.Statement.{statement}
+use Rattle.examine.proofs.follow.Tie as tie
+
+abbrev Inv-loop : tie.InvT-loop
+Inv-loop fd store₀ buffer₀ run₀ going₀ store buffer run going = Reading (record { run = run; store = store }) going × (length buffer ≡ layout .frameBytes)
+
+abbrev μ-loop : tie.MeasureT-loop
+μ-loop fd store₀ buffer₀ run₀ going₀ store buffer run going = leftOf run
+
+begun-requires : tie.Need-begun-requires Inv-loop μ-loop
+begun-requires c κs = search needs
+
+loop-holds : tie.Need-loop-holds Inv-loop μ-loop
+loop-holds c = (reading-starts _ (c .begun .ensures), refl)
+
+slice-aggregate-next-piece : tie.Need-slice-aggregate-next-piece Inv-loop μ-loop
+slice-aggregate-next-piece c = sym (c .before .before .loop .inv .1)
+
+next-piece-requires : tie.Need-next-piece-requires Inv-loop μ-loop
+next-piece-requires c κs = search needs
+
+stopped-requires : tie.Need-stopped-requires Inv-loop μ-loop
+stopped-requires c κs = search needs
+
+returns : tie.Need-returns Inv-loop μ-loop
+returns c = answers-failed _ _ _ (c .before .before .before .before .before .before .loop .inv .0) (c .stopped .ensures)
+
+returns-2 : tie.Need-returns-2 Inv-loop μ-loop
+returns-2 c = answers _ _ (c .before .before .before .before .before .before .loop .inv .0)
+
+sub-step : tie.Need-sub-step Inv-loop μ-loop
+sub-step c = search needs
+
+part-step-start : tie.Need-part-step-start Inv-loop μ-loop
+part-step-start c = search needs
+
+part-step-end : tie.Need-part-step-end Inv-loop μ-loop
+part-step-end c = search needs
+
+step-requires : tie.Need-step-requires Inv-loop μ-loop
+step-requires c κs = search needs
+
+is-stopped-requires : tie.Need-is-stopped-requires Inv-loop μ-loop
+is-stopped-requires c κs = search needs
+
+loop-less : tie.Need-loop-less Inv-loop μ-loop
+loop-less c = reading-less _ _ (c .before .before .before .before .before .before .before .before .before .before .before .loop .inv .0) (c .before .before .before .before .before .before .before .before .before .before .loop-test .taken) (c .before .before .before .before .before .before .before .before .next-piece .last .1 .0) (c .before .before .before .before .before .before .before .before .next-piece .result .end) (search needs) (search needs) (c .before .before .before .before .before .before .before .before .next-piece .ensures .2) _ (c .before .step .ensures .1) (c .before .step .ensures .0)
+
+loop-again : tie.Need-loop-again Inv-loop μ-loop
+loop-again c = (reading-goes _ _ (c .before .before .before .before .before .before .before .before .before .before .before .loop .inv .0) (c .before .before .before .before .before .before .before .before .before .before .loop-test .taken) (c .before .before .before .before .before .before .before .before .next-piece .last .1 .0) (c .before .before .before .before .before .before .before .before .next-piece .result .end) (search needs) (search needs) (c .before .before .before .before .before .before .before .before .next-piece .ensures .2) _ (c .before .step .ensures .1) (c .before .step .ensures .0) _ (c .is-stopped .ensures), c .before .before .before .before .before .before .before .before .next-piece .ensures .0)
+
+returns-3 : tie.Need-returns-3 Inv-loop μ-loop
+returns-3 c = answers _ _ (c .before .loop .inv .0)
+
+pub follow-spec : {M : Type 1} → statement M
+follow-spec =
+    tie.close
+    (tie.spec
+    Inv-loop
+    μ-loop
+    begun-requires
+    loop-holds
+    slice-aggregate-next-piece
+    next-piece-requires
+    stopped-requires
+    returns
+    returns-2
+    sub-step
+    part-step-start
+    part-step-end
+    step-requires
+    is-stopped-requires
+    loop-less
+    loop-again
+    returns-3)

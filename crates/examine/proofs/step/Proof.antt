@@ -1,0 +1,13 @@
+-- `examine::step` meets its contract: what is lent as bytes is bytes. Assumes nothing.
+use borrow.Author.Needs.{needs}
+use Rattle.examine.proofs.step.Statement.{statement}
+use Rattle.examine.proofs.step.Tie as tie
+
+step-requires : tie.Need-step-requires
+step-requires c κs = search needs
+
+returns : tie.Need-returns
+returns c = (c .step .ensures, record { byte = λ m. c .before .before .shared-slice-known .given m .fits })
+
+pub step-spec : {M : Type 1} → statement M
+step-spec = tie.close (tie.spec step-requires returns)

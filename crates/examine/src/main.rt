@@ -1,0 +1,115 @@
+// The program: a capture on standard input, its report on standard output. It holds one record at a time.
+ghost use mathlib.Core.Path.{_≡_};
+ghost use mathlib.Core.Bool.{false};
+ghost use mathlib.Core.List.{List};
+ghost use Prim.Native.Nat.{ℕ, _+_, _<_, _≤_};
+ghost use lib.ListN.{length, take};
+ghost use Rattle.bits.proofs.Fields.{Bytes};
+ghost use Rattle.capture.specs.Capture.{layout, wanted};
+ghost use Rattle.bench.specs.Run.{stepped};
+ghost use Rattle.bench.specs.Walk.{Followed};
+
+// Up to which place a buffer was filled, and whether a read failed: that is no end of the input.
+struct Filled {
+    end: usize,
+    failed: bool,
+}
+
+// Reads into a buffer from a place on, until another is reached, the input ends or a read fails.
+fn fill(fd: i32, buffer: &mut [u8], from: usize, to: usize) -> Filled
+    requires { ⌜ (from ≤ to) × (to ≤ length (now buffer)) ⌝ }
+    ensures { λ r. ⌜ (r .end ≤ to) × (length (now (buffer .exit)) ≡ length (now (buffer .entry))) × (take from (now (buffer .exit)) ≡ take from (now (buffer .entry))) ⌝ }
+{
+    let mut at: usize = from;
+    while at < to {
+        let got = libc::read(fd, &mut buffer[at..to]);
+        if got < 0 {
+            return Filled {
+                end: at,
+                failed: true,
+            };
+        }
+        let n = io::count(got, &buffer[at..to]);
+        if n == 0 {
+            return Filled {
+                end: at,
+                failed: false,
+            };
+        }
+        at += n;
+    }
+    Filled {
+        end: at,
+        failed: false,
+    }
+}
+
+// How many bytes of a record to ask for, by the first n of a buffer.
+fn wanted(buffer: &[u8], n: usize) -> usize
+    requires { ⌜ n ≤ length (now buffer) ⌝ }
+    ensures { λ r. ⌜ (r ≡ wanted (take n (now (buffer .entry)))) × (layout .lengthBytes ≤ r) × (r ≤ layout .frameBytes) ⌝ }
+{
+    capture::wanted(&buffer[0..n])
+}
+
+// The next record comes to stand at the beginning of a buffer: its length, then as many bytes as that asks for, or what is left of the input.
+fn next_piece(fd: i32, buffer: &mut [u8]) -> Filled
+    requires { ⌜ length (now buffer) ≡ layout .frameBytes ⌝ }
+    ensures { λ r. ⌜ (length (now (buffer .exit)) ≡ layout .frameBytes) × (r .end ≤ layout .frameBytes) × (r .end ≤ wanted (take (r .end) (now (buffer .exit)))) ⌝ }
+{
+    let first = wanted(buffer, 0);
+    let head = fill(fd, buffer, 0, first);
+    if head.failed {
+        return head;
+    }
+    if head.end < first {
+        return head;
+    }
+    let all = wanted(buffer, first);
+    if all <= first {
+        return head;
+    }
+    fill(fd, buffer, first, all)
+}
+
+// A step over a piece, which is of bytes.
+fn step(run: bench::Run, store: &mut [u8; 2880], piece: &[u8]) -> bench::Run
+    ensures { λ r. ⌜ (record { run = r; store = now (store .exit) } ≡ stepped (record { run = run; store = now (store .entry) }) (now (piece .entry))) × Bytes (now (piece .entry)) ⌝ }
+{
+    bench::step(run, store, piece)
+}
+
+// The run of what stands on the input, record by record, to its end or to what stops it; a read that fails stops it too.
+fn follow(fd: i32) -> bench::Run
+    ensures { λ r. ⌜ ((s : List ℕ) × Bytes s × Followed s r) ⌝ }
+{
+    let mut store = [0u8; 2880];
+    let mut buffer = [0u8; capture::FRAME_BYTES];
+    let mut run = bench::begun();
+    let mut going = true;
+    while going {
+        let piece = next_piece(fd, &mut buffer);
+        if piece.failed {
+            return bench::stopped(run);
+        }
+        let n = piece.end;
+        if n == 0 {
+            return run;
+        }
+        run = step(run, &mut store, &buffer[0..n]);
+        going = !bench::is_stopped(run);
+    }
+    run
+}
+
+// The report of a run, in a buffer that holds every one.
+fn print(run: bench::Run) -> bool {
+    let mut out = [0u8; bench::LONGEST];
+    let n = bench::report(run, &mut out);
+    io::write_all(libc::STDOUT_FILENO, &out[0..n])
+}
+
+fn main() {
+    let run = follow(libc::STDIN_FILENO);
+    print(run);
+}
