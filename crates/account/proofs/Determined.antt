@@ -7,12 +7,9 @@ use prog.Memory.{Memory}
 use prog.Routine.{Routine}
 use prog.Wp.{Heap}
 use ghost.Atoms.{Atoms}
-use contract.Lifetimes.{Lfts}
-use contract.Monad.{Fun, fact}
+use contract.Monad.{Fun}
 use denote.Ref.{now}
-use denote.Triple.Entry.{Args, Res}
-use denote.Triple.Clauses.{Ended, AtExit, Clauses}
-use Rattle.bits.proofs.Fixes.{Fixes}
+use Rattle.bits.proofs.Fixes.{Fixes, FixesSaid}
 use Rattle.account.specs.Account.{opened, frameEntered, lossEntered}
 use Rattle.account.specs.declared.Entry.{Entry}
 use Rattle.account.proofs.tallies_of.Kinds as tallies-kinds
@@ -49,28 +46,20 @@ verdict-of-determined κs a x y s t p q = (p ∙ sym q, tt)
 pub verdict-number-determined : Fixes 0 number-kinds.ps number-kinds.r number-reads.Post (λ κs s t. Unit)
 verdict-number-determined κs a x y s t p q = (p ∙ sym q, tt)
 
--- The functions that are lent the account are proved by a walk, so their `ensures` stands as an assertion of the logic. It is a plain fact `says` of the result
--- and of the parameters at exit, and of two outcomes of one call of which that holds the results are equal, and so are the accounts at exit, which `accounts` compares.
-module _ {M : Type 1} (𝓤 : URA M) where
-  abbrev FixesSaid : (T : Ended) → Clauses 𝓤 T → ((κs : Lfts (T .signature .lifetimes)) → AtExit T κs → AtExit T κs → Type 0) → Type 2
-  FixesSaid T clauses accounts =
-      (κs : Lfts (T .signature .lifetimes)) (a : Args (T .signature) κs) (g : clauses κs a .ghost)
-      → (says : Res (T .signature) κs → AtExit T κs → Type 0)
-      × ((x : Res (T .signature) κs) (s : AtExit T κs) → clauses κs a .ensures g x s ≡ fact 𝓤 (says x s))
-      × ((x y : Res (T .signature) κs) (s t : AtExit T κs) → says x s → says y t → (x ≡ y) × accounts κs s t)
+-- The functions that are lent the account are proved by a walk.
 
 -- two entries that are equal, part by part
 parts : (x y : Entry) → x ≡ y → (x .refusal ≡ y .refusal) × (x .account ≡ y .account)
 parts x y e = (ap (λ (r : Entry). r .refusal) e, ap (λ (r : Entry). r .account) e)
 
 module _ {M : Type 1} (𝓤 : URA M) (H : Heap 𝓤) (A : Atoms 𝓤) (mem : Memory → SProp 𝓤) (run : Routine → Fun 𝓤) where
-  pub enter-in-determined : FixesSaid 𝓤 enter-in.ended (enter-in.clauses 𝓤 H A mem run) (λ κs s t. now (s .0) ≡ now (t .0))
+  pub enter-in-determined : FixesSaid 𝓤 enter-in.ended (enter-in.clauses 𝓤 H A mem run) (λ κs x y s t. (x ≡ y) × (now (s .0) ≡ now (t .0)))
   enter-in-determined κs a g =
       ((λ r s. record { refusal = r; account = now (s .0) } ≡ frameEntered (now (a .0)) (a .1 .0) (a .1 .1 .0)), (λ x s. refl), (λ x y s t p q. parts _ _ (p ∙ sym q)))
 
-  pub lose-in-determined : FixesSaid 𝓤 lose-in.ended (lose-in.clauses 𝓤 H A mem run) (λ κs s t. now (s .0) ≡ now (t .0))
+  pub lose-in-determined : FixesSaid 𝓤 lose-in.ended (lose-in.clauses 𝓤 H A mem run) (λ κs x y s t. (x ≡ y) × (now (s .0) ≡ now (t .0)))
   lose-in-determined κs a g =
       ((λ r s. record { refusal = r; account = now (s .0) } ≡ lossEntered (now (a .0)) (a .1 .0)), (λ x s. refl), (λ x y s t p q. parts _ _ (p ∙ sym q)))
 
-  pub open-in-determined : FixesSaid 𝓤 open-in.ended (open-in.clauses 𝓤 H A mem run) (λ κs s t. now (s .0) ≡ now (t .0))
+  pub open-in-determined : FixesSaid 𝓤 open-in.ended (open-in.clauses 𝓤 H A mem run) (λ κs x y s t. (x ≡ y) × (now (s .0) ≡ now (t .0)))
   open-in-determined κs a g = ((λ r s. now (s .0) ≡ opened (a .1 .0)), (λ x s. refl), (λ x y s t p q. (refl, p ∙ sym q)))

@@ -18,24 +18,30 @@ use Rattle.bench.proofs.Decimal.{digits-fit}
 record AtMost (n : ℕ) (a : List ℕ) : Type 0 where
   pub fits : length a ≤ n
 
+-- a text behind another
 behind : {m n : ℕ} {a b : List ℕ} → AtMost m a → AtMost n b → AtMost (m + n) (a ++ b)
 behind {m} {n} {a} {b} h k = record { fits = omega (arith, length-append a b, h .fits, k .fits) }
 
+-- the bytes of a text
 exact : (s : String) → AtMost (len s) (ascii s)
 exact s = record { fits = omega (arith, length-tabulate (len s) (λ i. code (charAt s i))) }
 
+-- a number
 a-number : (n : ℕ) → AtMost 20 (decimal n)
 a-number n = record { fits = digits-fit 20 n }
 
+-- a line is at most 21 bytes longer than its name
 a-line : (s : String) (n : ℕ) → AtMost (len s + 21) (line (ascii s) n)
 a-line s n = behind (exact s) (behind (a-number n) (exact "\n"))
 
+-- a verdict in words
 in-words : (v : Verdict) → AtMost 12 (words v)
 unfolding words
 in-words NotMeasured = exact "NOT MEASURED"
 in-words Pass = record { fits = omega (arith, exact "PASS" .fits) }
 in-words Fail = record { fits = omega (arith, exact "FAIL" .fits) }
 
+-- no report is longer than the bound
 pub text-fits : Bounded
 unfolding text figures verdictLine
 text-fits run =

@@ -49,10 +49,12 @@ wrote-copied from out at part h e =
     size = length-take-le (at + length from - at) (drop at out) (let d = length-drop at out in omega arith) ∙ (omega arith)
 
 -- the parts of the report, one behind the other, are the whole
-pub whole-text : (run : Run) (asked : ℕ) (v : Verdict) → asked ≡ run .asked → v ≡ verdictOf run
-    → (frameLines asked (run .account .accepted) (run .account .missing) ++ tallyLines (run .account .words .clean) (run .account .words .one) (run .account .words .two) (run .account .words .flagged)) ++ verdictLine v ≡ text run
+pub wrote-parts : (run : Run) (asked : ℕ) (v : Verdict) {out a b left : List ℕ} {i j k : ℕ} → asked ≡ run .asked → v ≡ verdictOf run
+    → Wrote (frameLines asked (run .account .accepted) (run .account .missing)) out 0 a i
+    → Wrote (tallyLines (run .account .words .clean) (run .account .words .one) (run .account .words .two) (run .account .words .flagged)) a i b j
+    → Wrote (verdictLine v) b j left k → Wrote (text run) out 0 left k
 unfolding text figures frameLines tallyLines
-whole-text run asked v e f = rw (e, f) (simp append-assoc)
+wrote-parts run asked v e f p q r = wrote-as (rw (e, f) (simp append-assoc)) (wrote-more (wrote-more p q) r)
 
 -- the report, whole at the beginning of a buffer, and the lent buffer that it goes into
 module _ (run : Run) (out first whole : List ℕ) (n : ℕ) (w : Wrote (text run) first 0 whole n) where
@@ -60,6 +62,7 @@ module _ (run : Run) (out first whole : List ℕ) (n : ℕ) (w : Wrote (text run
   is-text : take n whole ≡ text run
   is-text = w .is
 
+  -- and n is its length
   long : length (text run) ≡ n
   long = omega (arith, w .long)
 
@@ -68,7 +71,7 @@ module _ (run : Run) (out first whole : List ℕ) (n : ℕ) (w : Wrote (text run
   unfolding writtenBytes written
   none-written h = let f = lt-leb (length (text run)) (length out) (rw long h) in (rw f refl, rw f refl)
 
-  -- it is not
+  -- the lent buffer holds it
   pub all-written : (left : List ℕ) → n ≤ length out → left ≡ copied (take (n - 0) (drop 0 whole)) out → (n ≡ writtenBytes run out) × (left ≡ written run out)
   unfolding writtenBytes written copied
   all-written left h e =

@@ -1,8 +1,9 @@
 // The report of a run as text: each part is written behind the one before it.
 ghost use mathlib.Core.Path.{_≡_};
+ghost use mathlib.Core.List.{_++_};
 ghost use Prim.Native.Nat.{_+_, _<_, _≤_};
 ghost use lib.ListN.{length, drop};
-ghost use Rattle.bench.specs.Report.{decimal, line, verdictLine, text, writtenBytes, written};
+ghost use Rattle.bench.specs.Report.{ascii, decimal, line, verdictLine, text, writtenBytes, written};
 ghost use Rattle.bench.specs.Writing.{Wrote, frameLines, tallyLines, longest};
 use crate::Run;
 
@@ -19,11 +20,12 @@ fn put(out: &mut [u8], at: usize, from: &[u8]) -> usize
     end
 }
 
-// A number in decimal at the end of 20 bytes; the answer is where it begins.
+// A number in decimal and the line's end behind it, at the end of 21 bytes; the answer is where it begins.
 fn spell(n: u64, to: &mut [u8]) -> usize
-    requires { ⌜ length (now to) ≡ 20 ⌝ }
-    ensures { λ r. ⌜ (r < 20) × (drop r (now (to .exit)) ≡ decimal n) ⌝ }
+    requires { ⌜ length (now to) ≡ 21 ⌝ }
+    ensures { λ r. ⌜ (r < 20) × (drop r (now (to .exit)) ≡ decimal n ++ ascii "\n") ⌝ }
 {
+    to[20] = 10;
     let mut i: usize = 20;
     let mut rest = n;
     while rest >= 10 {
@@ -36,26 +38,16 @@ fn spell(n: u64, to: &mut [u8]) -> usize
     i
 }
 
-// A number in decimal into a buffer.
-fn put_number(out: &mut [u8], at: usize, n: u64) -> usize
-    requires { ⌜ at + 20 ≤ length (now out) ⌝ }
-    ensures { λ r. ⌜ Wrote (decimal n) (now (out .entry)) at (now (out .exit)) r ⌝ }
-    ensures { λ r. ⌜ r ≤ at + 20 ⌝ }
-{
-    let mut last = [0u8; 20];
-    let from = spell(n, &mut last);
-    put(out, at, &last[from..20])
-}
-
 // A line into a buffer: its name, a number, the line's end. It has at most 21 bytes besides the name.
 fn put_line(out: &mut [u8], at: usize, name: &[u8], n: u64) -> usize
     requires { ⌜ at + length (now name) + 21 ≤ length (now out) ⌝ }
     ensures { λ r. ⌜ Wrote (line (now (name .entry)) n) (now (out .entry)) at (now (out .exit)) r ⌝ }
     ensures { λ r. ⌜ r ≤ at + length (now (name .entry)) + 21 ⌝ }
 {
-    let a = put(out, at, name);
-    let b = put_number(out, a, n);
-    put(out, b, b"\n")
+    let mut last = [0u8; 21];
+    let from = spell(n, &mut last);
+    let behind = put(out, at, name);
+    put(out, behind, &last[from..21])
 }
 
 // The lines of the frames, at the beginning of a buffer: 23 bytes of names, and three times at most 21.

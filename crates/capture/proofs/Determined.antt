@@ -9,12 +9,11 @@ use prog.Routine.{Routine}
 use prog.Wp.{Heap}
 use ghost.Atoms.{Atoms}
 use contract.Lifetimes.{Lfts}
-use contract.Monad.{Fun, fact}
+use contract.Monad.{Fun}
 use denote.Ref.{now}
-use denote.Triple.Entry.{Args, Res}
-use denote.Triple.Clauses.{Ended, AtExit, Clauses}
+use denote.Triple.Clauses.{AtExit}
 use borrow.Fn.Kinds.{Dens, resT, endedOf}
-use Rattle.bits.proofs.Fixes.{Fixes}
+use Rattle.bits.proofs.Fixes.{Fixes, FixesSaid}
 use Rattle.capture.specs.declared.Reader.{Reader}
 use Rattle.capture.specs.Capture.{readAt, symbolsAt}
 use Rattle.capture.proofs.read_at.Kinds as read-kinds
@@ -48,31 +47,23 @@ next-place-determined κs a x y s t p q = (p ∙ sym q, tt)
 pub wanted-determined : Fixes 1 wanted-kinds.ps wanted-kinds.r wanted-reads.Post (λ κs s t. Unit)
 wanted-determined κs a x y s t p q = (p ∙ sym q, tt)
 
--- The functions of the reader are proved by a walk, so their `ensures` stands as an assertion of the logic. It is a plain fact `says` of the result, and two
--- results of one call of which that holds are alike.
-module _ {M : Type 1} (𝓤 : URA M) where
-  abbrev FixesSaid : (T : Ended) → Clauses 𝓤 T → ((κs : Lfts (T .signature .lifetimes)) → Res (T .signature) κs → Res (T .signature) κs → Type 0) → Type 2
-  FixesSaid T clauses alike =
-      (κs : Lfts (T .signature .lifetimes)) (a : Args (T .signature) κs) (g : clauses κs a .ghost)
-      → (says : Res (T .signature) κs → Type 0)
-      × ((x : Res (T .signature) κs) (s : AtExit T κs) → clauses κs a .ensures g x s ≡ fact 𝓤 (says x))
-      × ((x y : Res (T .signature) κs) → says x → says y → alike κs x y)
+-- The functions of the reader are proved by a walk.
 
 -- two readers, by their fields
 alike : {x y : Reader} → x .capture ≡ y .capture → x .place ≡ y .place → x ≡ y
 alike p q = λ k. record { capture = p k; place = q k }
 
 module _ {M : Type 1} (𝓤 : URA M) (H : Heap 𝓤) (A : Atoms 𝓤) (mem : Memory → SProp 𝓤) (run : Routine → Fun 𝓤) where
-  pub begin-determined : FixesSaid 𝓤 begin.ended (begin.clauses 𝓤 H A mem run) (λ κs x y. x ≡ y)
+  pub begin-determined : FixesSaid 𝓤 begin.ended (begin.clauses 𝓤 H A mem run) (λ κs x y s t. x ≡ y)
   begin-determined κs a g =
-      ((λ r. (r .capture ≡ a .0) × (r .place ≡ 0)), (λ x s. refl), (λ x y p q. alike (p .0 ∙ sym (q .0)) (p .1 ∙ sym (q .1))))
+      ((λ r s. (r .capture ≡ a .0) × (r .place ≡ 0)), (λ x s. refl), (λ x y s t p q. alike (p .0 ∙ sym (q .0)) (p .1 ∙ sym (q .1))))
 
-  pub next-determined : FixesSaid 𝓤 next.ended (next.clauses 𝓤 H A mem run) (λ κs x y. x ≡ y)
-  next-determined κs a g = ((λ r. r ≡ readAt (now (a .0 .capture)) (a .0 .place)), (λ x s. refl), (λ x y p q. p ∙ sym q))
+  pub next-determined : FixesSaid 𝓤 next.ended (next.clauses 𝓤 H A mem run) (λ κs x y s t. x ≡ y)
+  next-determined κs a g = ((λ r s. r ≡ readAt (now (a .0 .capture)) (a .0 .place)), (λ x s. refl), (λ x y s t p q. p ∙ sym q))
 
-  pub moved-determined : FixesSaid 𝓤 moved.ended (moved.clauses 𝓤 H A mem run) (λ κs x y. x ≡ y)
+  pub moved-determined : FixesSaid 𝓤 moved.ended (moved.clauses 𝓤 H A mem run) (λ κs x y s t. x ≡ y)
   moved-determined κs a g =
-      ((λ r. (r .capture ≡ a .0 .capture) × (r .place ≡ a .1 .0)), (λ x s. refl), (λ x y p q. alike (p .0 ∙ sym (q .0)) (p .1 ∙ sym (q .1))))
+      ((λ r s. (r .capture ≡ a .0 .capture) × (r .place ≡ a .1 .0)), (λ x s. refl), (λ x y s t p q. alike (p .0 ∙ sym (q .0)) (p .1 ∙ sym (q .1))))
 
-  pub symbols-determined : FixesSaid 𝓤 symbols.ended (symbols.clauses 𝓤 H A mem run) (λ κs x y. now x ≡ now y)
-  symbols-determined κs a g = ((λ r. now r ≡ symbolsAt (now (a .0 .capture)) (a .1 .0)), (λ x s. refl), (λ x y p q. p ∙ sym q))
+  pub symbols-determined : FixesSaid 𝓤 symbols.ended (symbols.clauses 𝓤 H A mem run) (λ κs x y s t. now x ≡ now y)
+  symbols-determined κs a g = ((λ r s. now r ≡ symbolsAt (now (a .0 .capture)) (a .1 .0)), (λ x s. refl), (λ x y s t p q. p ∙ sym q))

@@ -1,20 +1,21 @@
 -- The lines of a report: eight, of which the last is the verdict's, and no other can be taken for it.
 -- Assumes nothing.
-use mathlib.Core.Path.{_≡_, refl, sym, ap, _∙_, subst}
+use mathlib.Core.Path.{_≡_, refl, sym, ap, _∙_}
 use mathlib.Core.Bool.{Bool, true, false, cond, not, _&&_, false≢true}
-use mathlib.Core.List.{List, [], _∷_, _++_, append-assoc, append-nil}
-use Prim.Native.Nat.{ℕ, zero, suc, _+_, _*_, _/_, _%_, _≤_, _<_}
-use native.Mathlib.Decide.{decLt}
+use mathlib.Core.Logic.{_≢_}
+use mathlib.Core.List.{List, [], _∷_, _++_, append-assoc, append-nil, List·Memᴰ, List·Memᴰ.List·Memᴰ·head, List·Memᴰ.List·Memᴰ·tail}
+use Prim.Native.Nat.{ℕ, zero, suc, _+_, _<_}
 use native.Mathlib.Omega.{arith}
-use lib.Dec.{eqb, ltb}
+use lib.Dec.{eqb}
 use lib.ListN.{length, getD}
-use borrow.Author.Tests.{ne-eqb, lt-ltb, le-ltb}
+use borrow.Author.Tests.{ne-eqb}
 use Rattle.bits.specs.Bits.{tabulate}
 use Rattle.account.specs.declared.Verdict.{Verdict}
 use Rattle.account.specs.declared.Verdict.the-variants.{NotMeasured, Pass, Fail}
 use Rattle.bench.specs.declared.Run.{Run}
 use Rattle.bench.specs.Run.{verdictOf}
-use Rattle.bench.specs.Report.{ascii, digits, decimal, line, words, figures, verdictLine, text}
+use Rattle.bench.specs.Report.{ascii, decimal, line, words, figures, verdictLine, text}
+use Rattle.bench.proofs.Decimal.{decimal-reads}
 use Rattle.demands.specs.Verdict.{linesFrom}
 
 -- no line ends in it
@@ -31,17 +32,14 @@ plain-append (c ∷ a) b h k = at (eqb c 10) h (λ e. plain-append a b e k)
     at true e IH = e
     at false e IH = IH e
 
-digits-plain : (k n : ℕ) → plain (digits k n) ≡ true
-unfolding plain digits
-digits-plain zero n = refl
-digits-plain (suc k) n = at (decLt n 10) (digits-plain k (n / 10))
-  where
-    digit : (d : ℕ) → plain ((48 + d) ∷ []) ≡ true
-    digit d = rw (ne-eqb (48 + d) 10 (λ z. omega arith)) refl
+-- none of its bytes is a line's end
+plain-by : (l : List ℕ) → ((b : ℕ) → List·Memᴰ b l → b ≢ 10) → plain l ≡ true
+unfolding plain
+plain-by [] h = refl
+plain-by (c ∷ l) h = rw (ne-eqb c 10 (h c (List·Memᴰ·head refl))) (plain-by l (λ b m. h b (List·Memᴰ·tail m)))
 
-    at : Dec (n < 10) → plain (digits k (n / 10)) ≡ true → plain (cond (ltb n 10) ((48 + n) ∷ []) (digits k (n / 10) ++ ((48 + n % 10) ∷ []))) ≡ true
-    at (yes h) q = rw (lt-ltb n 10 h) (digit n)
-    at (no h) q = rw (le-ltb n 10 (omega arith)) (plain-append (digits k (n / 10)) ((48 + n % 10) ∷ []) q (digit (n % 10)))
+decimal-plain : (n : ℕ) → plain (decimal n) ≡ true
+decimal-plain n = plain-by (decimal n) (λ b m z. let d = decimal-reads .2 n b m in omega arith)
 
 -- the first line of a text
 first-line : (begun l rest : List ℕ) → plain l ≡ true → linesFrom begun (l ++ (10 ∷ rest)) ≡ (begun ++ l) ∷ linesFrom [] rest
@@ -60,7 +58,7 @@ unfolding tabulate
 figure-line name n rest h =
     ap (linesFrom [])
     (append-assoc name (decimal n ++ ascii "\n") rest ∙ ap (λ (l : List ℕ). name ++ l) (append-assoc (decimal n) (ascii "\n") rest) ∙ sym (append-assoc name (decimal n) (10 ∷ rest)))
-    ∙ first-line [] (name ++ decimal n) rest (plain-append name (decimal n) h (digits-plain 20 n))
+    ∙ first-line [] (name ++ decimal n) rest (plain-append name (decimal n) h (decimal-plain n))
 
 one-of-figures : (name : List ℕ) (n : ℕ) (more last : List ℕ) → plain name ≡ true → linesFrom [] ((line name n ++ more) ++ last) ≡ (name ++ decimal n) ∷ linesFrom [] (more ++ last)
 one-of-figures name n more last h = ap (linesFrom []) (append-assoc (line name n) more last) ∙ figure-line name n (more ++ last) h

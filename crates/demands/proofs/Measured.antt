@@ -1,16 +1,15 @@
 -- A measured capture and its run: frames in their turn are entered one by one, and a run that loses its turn once is never measured.
 -- Assumes nothing.
 use mathlib.Core.Path.{_≡_, refl, sym, ap, _∙_, subst}
-use mathlib.Core.Bool.{Bool, true, false, cond, false≢true}
+use mathlib.Core.Bool.{Bool, true, false, false≢true}
 use mathlib.Core.Logic.{_≢_, _⊎_, inl, inr}
-use mathlib.Core.List.{List, [], _∷_, _++_, append-assoc}
+use mathlib.Core.List.{List}
 use Prim.Native.Nat.{ℕ, zero, suc, _+_, _*_, _-_, _%_, _^_, _≤_, _<_}
 use native.Mathlib.Decide.{ℕ-discrete}
 use native.Mathlib.Omega.{arith}
 use lib.Dec.{eqb}
-use lib.ListN.{length, getD, drop, replicate, length-append}
+use lib.ListN.{replicate}
 use borrow.Author.Tests.{eq-eqb, ne-eqb}
-use Rattle.bits.specs.Bits.{count}
 use Rattle.bits.proofs.Count.{count-cong}
 use Rattle.bch.specs.declared.Mend.{Mend}
 use Rattle.bch.specs.declared.Mend.the-variants.{Clean, One, Two, Flagged}
@@ -22,19 +21,18 @@ use Rattle.framing.proofs.Received.{flag-at}
 use Rattle.account.specs.declared.Account.{Account}
 use Rattle.account.specs.declared.Entry.{Entry}
 use Rattle.account.specs.declared.Tallies.{Tallies}
-use Rattle.account.specs.Account.{frameLimit, tallyLimit, total, opened, counted, talliesOf, ahead, late, over, grown, withFrame, withLoss, frameEntered, lossEntered, measured}
+use Rattle.account.specs.Account.{frameLimit, total, opened, counted, talliesOf, ahead, over, grown, frameEntered, lossEntered, measured}
 use Rattle.account.proofs.Limits.{under, within}
 use Rattle.account.proofs.Entered.{frame-done}
 use Rattle.account.proofs.Taken.{frame-taken, loss-taken}
-use Rattle.account.proofs.Judged.{MeasuredNumbers, measured-means}
+use Rattle.account.proofs.Judged.{measured-means}
 use Rattle.account.proofs.Kept.{brings}
 use Rattle.capture.specs.declared.Read.{Read}
 use Rattle.capture.specs.declared.Read.the-variants.{End, Refused, Order, Frame}
 use Rattle.capture.specs.Capture.{readAt, nextOf, symbolsAt, inTurn}
-use Rattle.bench.specs.declared.Run.{Run}
 use Rattle.bench.specs.declared.Phase.{Phase}
-use Rattle.bench.specs.declared.Phase.the-variants.{Unordered, Going, Stopped}
-use Rattle.bench.specs.Run.{State, noted, framed, orderCame, frameCame, halted, cameAs, goesOn}
+use Rattle.bench.specs.declared.Phase.the-variants.{Going, Stopped}
+use Rattle.bench.specs.Run.{State, noted, framed, orderCame, frameCame, cameAs, goesOn}
 use Rattle.bench.specs.Walk.{walked}
 use Rattle.bench.proofs.Walk.{came-stays, refused-stops}
 use Rattle.demands.specs.Verdict.{wordsWith, wordsIn}

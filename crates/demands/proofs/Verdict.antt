@@ -2,9 +2,9 @@
 -- Assumes nothing.
 use mathlib.Core.Path.{_≡_, refl, sym, ap, _∙_, subst}
 use mathlib.Core.Bool.{Bool, true, false, cond, not, false≢true}
-use mathlib.Core.Logic.{_≢_, _⊎_, inl, inr, _↔_}
+use mathlib.Core.Logic.{_≢_, _⊎_, inl, inr}
 use mathlib.Core.List.{List, [], _∷_, _++_, append-nil}
-use Prim.Native.Nat.{ℕ, zero, suc, _+_, _*_, _%_, _^_, _≤_, _<_}
+use Prim.Native.Nat.{ℕ, zero, suc, _+_, _^_, _≤_, _<_}
 use Prim.Native.String.{String}
 use native.Mathlib.Omega.{arith}
 use lib.Dec.{leb}
@@ -16,23 +16,21 @@ use Rattle.bits.proofs.Fields.{Bytes}
 use Rattle.symbols.specs.Pilots.{locks}
 use Rattle.account.specs.declared.Verdict.{Verdict}
 use Rattle.account.specs.declared.Verdict.the-variants.{NotMeasured, Pass, Fail}
-use Rattle.account.specs.Account.{measured, verdict, verdictNumber}
-use Rattle.account.proofs.Judged.{MeasuredNumbers, measured-by, judged, passed, failed, passes, fails}
+use Rattle.account.specs.Account.{verdict, verdictNumber}
+use Rattle.account.proofs.Judged.{MeasuredNumbers, measured-by, judged, passed, failed}
 use Rattle.capture.specs.declared.Read.{Read}
 use Rattle.capture.specs.declared.Read.the-variants.{End, Refused, Order, Frame}
 use Rattle.capture.specs.Capture.{layout, readAt, symbolsAt, orderRecord, inTurn, frameRecords}
 use Rattle.capture.proofs.Records.{records}
 use Rattle.bench.specs.declared.Run.{Run}
-use Rattle.bench.specs.declared.Phase.{Phase}
-use Rattle.bench.specs.declared.Phase.the-variants.{Unordered, Going, Stopped}
 use Rattle.bench.specs.Run.{State, fresh, stopped, stepped, goesOn, verdictOf}
 use Rattle.bench.specs.Walk.{examined, pieces, through, Followed}
 use Rattle.bench.specs.Report.{ascii, words, text, writtenBytes, written}
 use Rattle.bench.proofs.Walk.{pieces-alike, none-left}
-use Rattle.demands.specs.Verdict.{wordsIn, Measured, measuredRun, flaggedWords, Stepwise, Reported, linesFrom, Line, PassExactly, FailExactly, NotMeasuredExactly, ProgramSays, MeasuredOnce, ReportsExist, NeverPass, AllCounted}
+use Rattle.demands.specs.Verdict.{Measured, measuredRun, flaggedWords, Stepwise, Reported, Line, PassExactly, FailExactly, NotMeasuredExactly, ProgramSays, MeasuredOnce, ReportsExist, NeverPass, AllCounted}
 use Rattle.demands.proofs.Measured.{all-words}
 use Rattle.demands.proofs.Walked.{framePlace, measured-run, measured-back}
-use Rattle.demands.proofs.Lines.{eight, text-lines, verdict-said}
+use Rattle.demands.proofs.Lines.{text-lines, verdict-said}
 
 -- ---- the verdict of a run
 

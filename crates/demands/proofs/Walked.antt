@@ -3,15 +3,15 @@
 use mathlib.Core.Path.{_≡_, refl, sym, ap, _∙_, subst}
 use mathlib.Core.Bool.{true, false≢true}
 use mathlib.Core.Logic.{_⊎_, inl, inr}
-use mathlib.Core.List.{List, [], _∷_, _++_, append-assoc, append-nil}
-use Prim.Native.Nat.{ℕ, zero, suc, _+_, _*_, _-_, _%_, _^_, _≤_, _<_}
+use mathlib.Core.List.{List, [], _++_, append-assoc, append-nil}
+use Prim.Native.Nat.{ℕ, zero, suc, _+_, _*_, _-_, _^_, _≤_, _<_}
 use native.Mathlib.Decide.{decLt}
 use native.Mathlib.Omega.{arith}
-use lib.ListN.{length, getD, drop, replicate, length-append, length-drop}
+use lib.ListN.{length, drop, replicate, length-append, length-drop}
 use lib.Seq.{drop-drop, getD-drop}
 use Rattle.bits.proofs.Fields.{Bytes}
 use Rattle.symbols.specs.Pilots.{locks}
-use Rattle.account.specs.Account.{frameLimit, opened, noWords, measured}
+use Rattle.account.specs.Account.{frameLimit, noWords, measured}
 use Rattle.account.proofs.Judged.{measured-means}
 use Rattle.capture.specs.declared.Read.{Read}
 use Rattle.capture.specs.declared.Read.the-variants.{End, Refused, Order, Frame}
@@ -20,10 +20,8 @@ use Rattle.capture.proofs.Cases.{at-end}
 use Rattle.capture.proofs.Found.{order-found, frame-found}
 use Rattle.capture.proofs.Local.{reads-from-here, symbols-here}
 use Rattle.capture.proofs.Records.{records}
-use Rattle.bench.specs.declared.Run.{Run}
-use Rattle.bench.specs.declared.Phase.{Phase}
-use Rattle.bench.specs.declared.Phase.the-variants.{Unordered, Going, Stopped}
-use Rattle.bench.specs.Run.{State, begun, fresh, framed, orderCame, frameCame, cameAs, goesOn}
+use Rattle.bench.specs.declared.Phase.the-variants.{Going, Stopped}
+use Rattle.bench.specs.Run.{State, fresh, framed, orderCame, frameCame, cameAs, goesOn}
 use Rattle.bench.specs.Walk.{walked, examined}
 use Rattle.bench.proofs.Walk.{walked-one, walked-end, end, none-left, refused-stops}
 use Rattle.demands.specs.Verdict.{wordsIn, Measured, measuredRun}

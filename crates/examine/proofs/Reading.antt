@@ -3,18 +3,17 @@
 use mathlib.Core.Path.{_≡_, refl, sym, ap, _∙_, subst}
 use mathlib.Core.Bool.{Bool, true, false, not, false≢true}
 use mathlib.Core.Logic.{_≢_, inl, inr}
-use mathlib.Core.List.{List, [], _∷_, _++_}
-use Prim.Native.Nat.{ℕ, zero, suc, _+_, _-_, _≤_, _<_}
+use mathlib.Core.List.{List, [], _++_}
+use Prim.Native.Nat.{ℕ, _+_, _-_, _≤_, _<_}
 use native.Mathlib.Decide.{decLt}
 use native.Mathlib.Omega.{arith}
 use lib.ListN.{length, getD, take, drop, replicate, List·getD-append, List·getD-eq-default}
 use lib.Seq.{length-take-le, getD-append-add}
 use Rattle.bits.proofs.Fields.{Bytes}
-use Rattle.capture.specs.declared.Read.the-variants.{End}
-use Rattle.capture.specs.Capture.{readAt, wanted}
+use Rattle.capture.specs.Capture.{wanted}
 use Rattle.bench.specs.declared.Run.{Run}
 use Rattle.bench.specs.declared.Phase.{Phase}
-use Rattle.bench.specs.declared.Phase.the-variants.{Unordered, Going, Stopped}
+use Rattle.bench.specs.declared.Phase.the-variants.{Stopped}
 use Rattle.bench.specs.Run.{State, begun, stopped, isStopped, stepped}
 use Rattle.bench.specs.Walk.{examined, Followed}
 use Rattle.bench.proofs.Walk.{end, Onward, onward-starts, onward-ends, onward-last, onward-next, short-stops}

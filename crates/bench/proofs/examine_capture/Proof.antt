@@ -1,8 +1,7 @@
 -- `bench::examine_capture` meets its contract. The invariant: from here on the walk comes to what the whole examination comes to.
 -- Assumes nothing.
-use mathlib.Core.Path.{_≡_, ap}
+use mathlib.Core.Path.{ap}
 use Prim.Native.Nat.{_-_}
-use native.Mathlib.Omega.{arith}
 use borrow.Author.Needs.{needs}
 use lib.ListN.{length}
 use Rattle.bench.specs.Run.{State}

@@ -1,18 +1,27 @@
--- `bench::text::put_line` meets its contract: a name, a number, the line's end. Assumes nothing.
-use Rattle.bits.specs.Bits.{tabulate}
-use Rattle.bench.proofs.Writing.{wrote-more}
+-- `bench::text::put_line` meets its contract: the name, then what was spelled. Assumes nothing.
+use Rattle.bench.proofs.Decimal.{to-the-end}
+use Rattle.bench.proofs.Writing.{wrote-more, wrote-as}
 use borrow.Author.Needs.{needs}
 use Rattle.bench.proofs.text.put_line.Statement.{statement}
 use Rattle.bench.proofs.text.put_line.Tie as tie
 
+slice-aggregate-spell : tie.Need-slice-aggregate-spell
+slice-aggregate-spell c = search needs
+
+spell-requires : tie.Need-spell-requires
+spell-requires c κs = search needs
+
 put-requires : tie.Need-put-requires
 put-requires c κs = search needs
 
-put-number-requires : tie.Need-put-number-requires
-put-number-requires c κs = search needs
+sub-put : tie.Need-sub-put
+sub-put c = search needs
 
-slice-aggregate-put : tie.Need-slice-aggregate-put
-slice-aggregate-put c = search needs
+part-put-start : tie.Need-part-put-start
+part-put-start c = search needs
+
+part-put-end : tie.Need-part-put-end
+part-put-end c = search needs
 
 put-requires-2 : tie.Need-put-requires-2
 put-requires-2 c κs = search needs
@@ -21,19 +30,22 @@ same-length : tie.Need-same-length
 same-length c = search needs
 
 returns : tie.Need-returns
-unfolding tabulate
 returns c =
     let last = c .before .before in
-    let middle = last .before .before .before .before .before in
-    (wrote-more (middle .before .before .before .before .put .ensures) (wrote-more (middle .put-number .ensures .0) (last .put2 .ensures)), search needs)
+    let first = last .before .before .before .before .before .before in
+    let spell = first .before .before .before .spell in
+    (wrote-more (first .put .ensures) (wrote-as (to-the-end _ (spell .last .1 .0) (spell .result) (search needs) (spell .ensures .1)) (last .put2 .ensures)), search needs)
 
 pub put-line-spec : {M : Type 1} → statement M
 put-line-spec =
     tie.close
     (tie.spec
+    slice-aggregate-spell
+    spell-requires
     put-requires
-    put-number-requires
-    slice-aggregate-put
+    sub-put
+    part-put-start
+    part-put-end
     put-requires-2
     same-length
     returns)

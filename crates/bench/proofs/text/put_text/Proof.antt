@@ -1,5 +1,5 @@
 -- `bench::text::put_text` meets its contract: the parts of the report, one behind the other. Assumes nothing.
-use Rattle.bench.proofs.Writing.{wrote-more, wrote-as, whole-text}
+use Rattle.bench.proofs.Writing.{wrote-parts}
 use borrow.Author.Needs.{needs}
 use Rattle.bench.proofs.text.put_text.Statement.{statement}
 use Rattle.bench.proofs.text.put_text.Tie as tie
@@ -27,7 +27,8 @@ returns c =
     let verdict = c .before .before in
     let tallies = verdict .before .before .before .before in
     let frames = tallies .before .before .before .before in
-    (wrote-as (whole-text _ _ _ (frames .before .before .wide32 .ensures .0) (frames .before .before .before .verdict-of .ensures)) (wrote-more (wrote-more (frames .put-frames .ensures .0) (tallies .put-tallies .ensures .0)) (verdict .put-verdict .ensures .0)), search needs)
+    let judged = frames .before .before .before in
+    (wrote-parts (judged .before .before .before .before .args .run) _ _ (frames .before .before .wide32 .ensures .0) (judged .verdict-of .ensures) (frames .put-frames .ensures .0) (tallies .put-tallies .ensures .0) (verdict .put-verdict .ensures .0), search needs)
 
 pub put-text-spec : {M : Type 1} → statement M
 put-text-spec =

@@ -1,19 +1,24 @@
 -- `bench::text::spell` meets its contract: the digits are written from the last on. Assumes nothing.
+use mathlib.Core.List.{_++_}
 use native.Mathlib.Omega.{arith}
 use lib.ListN.{length-set}
 use borrow.Author.Needs.{needs}
+use Rattle.bench.specs.Report.{ascii, decimal}
 use Rattle.bench.proofs.Decimal.{Spelling, spelling-start, spelling-turn, spelling-done}
 use Rattle.bench.proofs.text.spell.Statement.{statement}
 use Rattle.bench.proofs.text.spell.Tie as tie
 
 abbrev Inv-loop : tie.InvT-loop
-Inv-loop n to₀ i₀ rest₀ to i rest = Spelling n to i rest
+Inv-loop n to₀ i₀ rest₀ to i rest = Spelling (decimal n ++ ascii "\n") to i rest
 
 abbrev μ-loop : tie.MeasureT-loop
 μ-loop n to₀ i₀ rest₀ to i rest = rest
 
+slice-write-to : tie.Need-slice-write-to Inv-loop μ-loop
+slice-write-to c = search needs
+
 loop-holds : tie.Need-loop-holds Inv-loop μ-loop
-loop-holds c = spelling-start _ _ (search needs) (search needs)
+loop-holds c = spelling-start (c .args .n) (c .args .to .now) (search needs) (c .pre)
 
 sub-i : tie.Need-sub-i Inv-loop μ-loop
 sub-i c = omega arith
@@ -24,8 +29,8 @@ cast-to c = search needs
 add-to : tie.Need-add-to Inv-loop μ-loop
 add-to c = omega arith
 
-slice-write-to : tie.Need-slice-write-to Inv-loop μ-loop
-slice-write-to c = search needs
+slice-write-to-2 : tie.Need-slice-write-to-2 Inv-loop μ-loop
+slice-write-to-2 c = search needs
 
 loop-less : tie.Need-loop-less Inv-loop μ-loop
 loop-less c = omega arith
@@ -42,8 +47,8 @@ cast-to-2 c = search needs
 add-to-2 : tie.Need-add-to-2 Inv-loop μ-loop
 add-to-2 c = omega arith
 
-slice-write-to-2 : tie.Need-slice-write-to-2 Inv-loop μ-loop
-slice-write-to-2 c = search needs
+slice-write-to-3 : tie.Need-slice-write-to-3 Inv-loop μ-loop
+slice-write-to-3 c = search needs
 
 same-length : tie.Need-same-length Inv-loop μ-loop
 same-length c = simp length-set (omega arith)
@@ -57,16 +62,17 @@ spell-spec =
     (tie.spec
     Inv-loop
     μ-loop
+    slice-write-to
     loop-holds
     sub-i
     cast-to
     add-to
-    slice-write-to
+    slice-write-to-2
     loop-less
     loop-again
     sub-i-2
     cast-to-2
     add-to-2
-    slice-write-to-2
+    slice-write-to-3
     same-length
     returns)
