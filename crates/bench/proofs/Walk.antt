@@ -13,7 +13,7 @@ use lib.Seq.{drop-drop, take-all, take-append-seam, drop-append-seam}
 use borrow.Author.Tests.{eq-eqb, ne-eqb}
 use Rattle.capture.specs.declared.Read.{Read}
 use Rattle.capture.specs.declared.Read.the-variants.{End, Refused, Order, Frame}
-use Rattle.capture.specs.Capture.{readAt, nextOf, moved, symbolsAt, wanted}
+use Rattle.capture.specs.Capture.{readAt, nextOf, shifted, symbolsAt, wanted}
 use Rattle.capture.proofs.Found.{Stands, stands, order-found, frame-found}
 use Rattle.capture.proofs.Cases.{at-end}
 use Rattle.capture.proofs.Local.{reads-from-here, symbols-here, wanted-reads, wanted-bounds, wanted-alike}
@@ -80,17 +80,17 @@ came-alike (Refused refusal) st p s h = refl
 came-alike (Order start asked allowed next) st p s h = refl
 came-alike (Frame number from next) st p s h = ap (frameCame (st .run .phase) st number) (h number from next refl)
 
-came-moved : (read : Read) (st : State) (s : List ℕ) (i : ℕ) → cameAs read st (drop i s) ≡ cameAs (moved i read) st s
-unfolding cameAs moved
-came-moved End st s i = refl
-came-moved (Refused refusal) st s i = refl
-came-moved (Order start asked allowed next) st s i = refl
-came-moved (Frame number from next) st s i = ap (frameCame (st .run .phase) st number) (sym (symbols-here s i from))
+came-shifted : (read : Read) (st : State) (s : List ℕ) (i : ℕ) → cameAs read st (drop i s) ≡ cameAs (shifted i read) st s
+unfolding cameAs shifted
+came-shifted End st s i = refl
+came-shifted (Refused refusal) st s i = refl
+came-shifted (Order start asked allowed next) st s i = refl
+came-shifted (Frame number from next) st s i = ap (frameCame (st .run .phase) st number) (sym (symbols-here s i from))
 
 -- a step with all that is left from a place on is what stands there
 pub step-here : (st : State) (s : List ℕ) (i : ℕ) → stepped st (drop i s) ≡ cameAs (readAt s i) st s
 unfolding stepped
-step-here st s i = came-moved (readAt (drop i s) 0) st s i ∙ ap (λ (r : Read). cameAs r st s) (sym (reads-from-here s i))
+step-here st s i = came-shifted (readAt (drop i s) 0) st s i ∙ ap (λ (r : Read). cameAs r st s) (sym (reads-from-here s i))
 
 -- and with the bytes wanted alone
 pub step-piece : (st : State) (s : List ℕ) → stepped st (take (wanted s) s) ≡ stepped st s
@@ -102,14 +102,14 @@ step-piece st s =
 -- where a run that goes on reads, all of what it reads is wanted
 next-wanted : (s : List ℕ) (i : ℕ) (read : Read) → readAt (drop i s) 0 ≡ read
     → (readAt s i ≡ End) ⊎ (((st : State) → cameAs (readAt s i) st s .run .phase ≡ Stopped) ⊎ (nextOf (readAt s i) i ≡ i + wanted (drop i s)))
-unfolding moved
-next-wanted s i End e = inl (reads-from-here s i ∙ ap (moved i) e)
+unfolding shifted
+next-wanted s i End e = inl (reads-from-here s i ∙ ap (shifted i) e)
 next-wanted s i (Refused refusal) e =
-    inr (inl (λ st. ap (λ (r : Read). cameAs r st s .run .phase) (reads-from-here s i ∙ ap (moved i) e) ∙ refused-stops st s refusal))
+    inr (inl (λ st. ap (λ (r : Read). cameAs r st s .run .phase) (reads-from-here s i ∙ ap (shifted i) e) ∙ refused-stops st s refusal))
 next-wanted s i (Order start asked allowed next) e =
-    inr (inr (ap (λ (r : Read). nextOf r i) (reads-from-here s i ∙ ap (moved i) e) ∙ ap (λ (n : ℕ). i + n) (wanted-reads (drop i s) .1 start asked allowed next e)))
+    inr (inr (ap (λ (r : Read). nextOf r i) (reads-from-here s i ∙ ap (shifted i) e) ∙ ap (λ (n : ℕ). i + n) (wanted-reads (drop i s) .1 start asked allowed next e)))
 next-wanted s i (Frame number from next) e =
-    inr (inr (ap (λ (r : Read). nextOf r i) (reads-from-here s i ∙ ap (moved i) e) ∙ ap (λ (n : ℕ). i + n) (wanted-reads (drop i s) .2 number from next e .0)))
+    inr (inr (ap (λ (r : Read). nextOf r i) (reads-from-here s i ∙ ap (shifted i) e) ∙ ap (λ (n : ℕ). i + n) (wanted-reads (drop i s) .2 number from next e .0)))
 
 -- ---- piece by piece
 

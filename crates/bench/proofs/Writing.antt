@@ -1,11 +1,9 @@
 -- What writers leave in a buffer: bytes at a place, a text behind another, and the report at the beginning of a lent buffer.
 -- Assumes nothing.
 use mathlib.Core.Path.{_≡_, refl, sym, ap, _∙_, subst}
-use mathlib.Core.Bool.{Bool, true, false, cond}
 use mathlib.Core.List.{List, _++_, append-assoc}
 use Prim.Native.Nat.{ℕ, _+_, _-_, _≤_, _<_}
 use native.Mathlib.Omega.{arith}
-use lib.Dec.{leb}
 use lib.ListN.{length, take, drop, length-append, length-drop}
 use lib.Seq.{take-at, take-all, length-take-le}
 use borrow.Author.Tests.{le-leb, lt-leb}
@@ -81,11 +79,11 @@ module _ (run : Run) (out first whole : List ℕ) (n : ℕ) (w : Wrote (text run
       zeroed : (k : ℕ) → k - 0 ≡ k
       zeroed k = omega arith
 
--- what is written lies within the buffer
-pub written-inside : (run : Run) (out left : List ℕ) (n : ℕ) → (n ≡ writtenBytes run out) × (left ≡ written run out) → n ≤ length left
+-- in a buffer that holds every report, the text is what is written
+pub text-written : (run : Run) (out left : List ℕ) (n : ℕ) → length (text run) ≤ length out → (n ≡ writtenBytes run out) × (left ≡ written run out)
+    → (n ≤ length left) × (take n left ≡ text run)
 unfolding writtenBytes written
-written-inside run out left n (e, f) = rw (e, f) (at (leb (length (text run)) (length out)))
+text-written run out left n h (e, f) = rw (e, f, le-leb (length (text run)) (length out) h) (inside, take-at (text run) (drop (length (text run)) out) (length (text run)) refl)
   where
-    at : (b : Bool) → cond b (length (text run)) 0 ≤ length (cond b (text run ++ drop (length (text run)) out) out)
-    at true = let l = length-append (text run) (drop (length (text run)) out) in omega arith
-    at false = omega arith
+    inside : length (text run) ≤ length (text run ++ drop (length (text run)) out)
+    inside = let l = length-append (text run) (drop (length (text run)) out) in omega arith

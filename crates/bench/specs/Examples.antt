@@ -1,25 +1,26 @@
--- The report by example: the one that 01 prints (account and verdict), and the one of no order. And what stands in it for a number.
+-- The report by example: the one that 01 prints (account and verdict), and the one of a capture with no order first. And what stands in it for a number.
 -- Assumes nothing.
 use mathlib.Core.Path.{_≡_}
 use mathlib.Core.Logic.{_≢_}
-use mathlib.Core.List.{List·Memᴰ}
+use mathlib.Core.List.{List, List·Memᴰ}
 use Prim.Native.Nat.{ℕ, _-_, _^_, _≤_, _<_}
 use lib.ListN.{length, getD}
 use Rattle.bits.specs.Bits.{value}
-use Rattle.account.specs.Account.{opened}
-use Rattle.bench.specs.declared.Phase.the-variants.{Going}
-use Rattle.bench.specs.Run.{begun}
+use Rattle.capture.specs.declared.Read.the-variants.{Order}
+use Rattle.capture.specs.Capture.{readAt}
+use Rattle.capture.specs.Examples.{loneOrder}
+use Rattle.bench.specs.Walk.{examined}
 use Rattle.bench.specs.Report.{ascii, decimal, text}
 
--- a lone order: start 0, asked 1, allowed 0
+-- 01's lone order: start 0, asked 1, allowed 0
 abbrev pub LoneOrder : Type 0
-LoneOrder =
-    text (record { phase = Going; asked = 1; allowed = 0; account = opened 0 })
-    ≡ ascii "asked 1\naccepted 0\nmissing 0\nclean 0\none 0\ntwo 0\nflagged 0\nverdict NOT MEASURED\n"
+LoneOrder = text (examined loneOrder .run) ≡ ascii "asked 1\naccepted 0\nmissing 0\nclean 0\none 0\ntwo 0\nflagged 0\nverdict NOT MEASURED\n"
 
--- with no order every number prints 0
+-- with no order first every number prints 0
 abbrev pub NoOrder : Type 0
-NoOrder = text begun ≡ ascii "asked 0\naccepted 0\nmissing 0\nclean 0\none 0\ntwo 0\nflagged 0\nverdict NOT MEASURED\n"
+NoOrder =
+    (s : List ℕ) → ((start asked allowed next : ℕ) → readAt s 0 ≢ Order start asked allowed next)
+    → text (examined s .run) ≡ ascii "asked 0\naccepted 0\nmissing 0\nclean 0\none 0\ntwo 0\nflagged 0\nverdict NOT MEASURED\n"
 
 -- a number in decimal reads as itself, digit by digit, and no zero stands in front of it; 0 is the digit 0
 abbrev pub DecimalReads : Type 0

@@ -1,8 +1,7 @@
 -- The walk over a whole capture, and the same record by record, as a program walks that holds one record at a time (01, account and verdict).
 -- Assumes nothing.
 use mathlib.Core.Path.{_≡_}
-use mathlib.Core.Bool.{cond}
-use mathlib.Core.Logic.{_⊎_}
+use mathlib.Core.Bool.{Bool, cond}
 use mathlib.Core.List.{List, [], _∷_}
 use Prim.Native.Nat.{ℕ, zero, suc}
 use lib.Dec.{eqb}
@@ -34,9 +33,9 @@ unfoldable pub through : State → List (List ℕ) → State
 through st [] = st
 through st (p ∷ ps) = through (stepped st p) ps
 
--- what a program that reads record by record may come to over the bytes that it has read: their run, or, where a read failed, that run stopped
-abbrev pub Followed : List ℕ → Run → Type 0
-Followed s r = (r ≡ examined s .run) ⊎ (r ≡ stopped (examined s .run))
+-- what following an input record by record comes to over the bytes s that it brought: their run; and where a read failed, that run stopped
+abbrev pub followed : List ℕ → Bool → Run
+followed s failed = cond failed (stopped (examined s .run)) (examined s .run)
 
 -- to step through the pieces is to walk over the whole
 abbrev pub PiecesAlike : Type 0

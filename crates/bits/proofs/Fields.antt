@@ -9,7 +9,7 @@ use native.Mathlib.Numerals.{add-one}
 use native.Mathlib.Omega.{arith}
 use lib.ListN.{length, getD, List·getD-eq-default}
 use lib.Pow.{pow-mono}
-use Rattle.bits.specs.Bits.{value, number, bitOf, bitAt, fieldAt, bytes}
+use Rattle.bits.specs.Bits.{value, number, bitOf, bitAt, fieldAt, bytes, AllBytes}
 use Rattle.bits.proofs.Tabulate.{length-tabulate, getD-tabulate, tabulate-cong, is-tabulate}
 use Rattle.bits.proofs.Value.{value-cong, value-lt, value-append, value-top, value-low, bit-lt, bit-number, number-bits}
 
@@ -63,11 +63,7 @@ unfolding fieldAt bitAt
 field-kept d l i n h =
     field-is l i n (λ q. bitAt d (i + q)) (λ q c. ap (λ (x : ℕ). bitOf 8 x ((i + q) % 8)) (h ((i + q) / 8) (omega arith) (omega arith)))
 
--- every element is a byte
-pub record Bytes (s : List ℕ) : Type 0 where
-  pub byte : (m : ℕ) → getD s m 0 < 256
-
-module _ (s : List ℕ) (B : Bytes s) where
+module _ (s : List ℕ) (B : AllBytes s) where
   pub byte-field : (m : ℕ) → fieldAt s (8 * m) 8 ≡ getD s m 0
   byte-field m = field-is s (8 * m) 8 (bitOf 8 (getD s m 0)) (bitAt-byte s m) ∙ number-bits 8 (getD s m 0) (B .byte m)
 
@@ -99,7 +95,7 @@ module _ (n : ℕ) (f : ℕ → ℕ) where
   bytes-cong g h = tabulate-cong n _ _ (λ m l. value-cong 2 8 _ _ (λ q c. h (8 * m + q) (omega arith)))
 
   -- a string with the length and the bits is it
-  pub is-bytes : (s : List ℕ) → Bytes s → length s ≡ n → ((i : ℕ) → i < 8 * n → bitAt s i ≡ f i) → s ≡ bytes n f
+  pub is-bytes : (s : List ℕ) → AllBytes s → length s ≡ n → ((i : ℕ) → i < 8 * n → bitAt s i ≡ f i) → s ≡ bytes n f
   unfolding bytes
   is-bytes s B e h = is-tabulate 0 s n _ e (λ m l. sym (byte-field s B m) ∙ field-is s (8 * m) 8 _ (λ q c. h (8 * m + q) (omega arith)))
 
@@ -111,7 +107,7 @@ module _ (n : ℕ) (f : ℕ → ℕ) where
         let whole : 8 * m + i % 8 ≡ i = omega arith in
         rw (getD-bytes m (omega arith)) (bit-number 8 _ (λ q l. bit (8 * m + q) (omega arith)) (i % 8) (omega arith) ∙ ap f whole)
 
-    pub bytes-bytes : Bytes (bytes n f)
+    pub bytes-bytes : AllBytes (bytes n f)
     bytes-bytes = record { byte = λ m. at m (decLt m n) }
       where
         at : (m : ℕ) → Dec (m < n) → getD (bytes n f) m 0 < 256
@@ -121,11 +117,11 @@ module _ (n : ℕ) (f : ℕ → ℕ) where
 -- A loop that reads n bytes from place o on: `while j < n { v = v * 256 + s[o + j]; j += 1 }`. `Reading` is its invariant.
 pub record Reading (s : List ℕ) (o n j v : ℕ) : Type 0 where
   pub upto : j ≤ n
-  pub bytes : Bytes s
+  pub bytes : AllBytes s
   pub is : v ≡ fieldAt s (8 * o) (8 * j)
 
 module _ {s : List ℕ} {o n : ℕ} where
-  pub reading-start : Bytes s → Reading s o n 0 0
+  pub reading-start : AllBytes s → Reading s o n 0 0
   unfolding fieldAt value
   reading-start B = record { upto = zero-le; bytes = B; is = refl }
 

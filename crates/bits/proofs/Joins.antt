@@ -12,9 +12,9 @@ use lib.Pow.{pow-add, pow-pos, pow-mono, shr-lt, shl-exact}
 use lib.Bits.{bitAnd, bitOr, and-mask, or-shifted}
 use lib.ListN.{length, getD, set, length-set}
 use lib.Seq.{getD-set-same, getD-set-other}
-use Rattle.bits.specs.Bits.{fieldAt}
+use Rattle.bits.specs.Bits.{fieldAt, AllBytes}
 use Rattle.bits.proofs.Value.{value-cong, value-digits}
-use Rattle.bits.proofs.Fields.{Bytes, bytes-field}
+use Rattle.bits.proofs.Fields.{bytes-field}
 
 module _ (w : ℕ) where
   -- `(a << k) | d`
@@ -39,14 +39,14 @@ pub record Putting (n v o : ℕ) (d l : List ℕ) (j : ℕ) : Type 0 where
   pub fits : v < 2 ^ (8 * n)
   pub room : o + n ≤ length d
   pub long : length l ≡ length d
-  pub bytes : Bytes l
+  pub bytes : AllBytes l
   pub before : (m : ℕ) → m < o → getD l m 0 ≡ getD d m 0
   pub after : (m : ℕ) → o + j ≤ m → getD l m 0 ≡ getD d m 0
   pub digit : (i : ℕ) → i < j → getD l (o + i) 0 ≡ v / 2 ^ (8 * (n - (i + 1))) % 256
 
 pub record Put (n v o : ℕ) (d l : List ℕ) : Type 0 where
   pub long : length l ≡ length d
-  pub bytes : Bytes l
+  pub bytes : AllBytes l
   pub before : (m : ℕ) → m < o → getD l m 0 ≡ getD d m 0
   pub after : (m : ℕ) → o + n ≤ m → getD l m 0 ≡ getD d m 0
   pub is : fieldAt l (8 * o) (8 * n) ≡ v
@@ -55,7 +55,7 @@ byte-pow : (k : ℕ) → 2 ^ (8 * k) ≡ 256 ^ k
 byte-pow zero = refl
 byte-pow (suc k) = rw (mul-suc, pow-add, pow-suc 256 k, byte-pow k)
 
-set-bytes : (l : List ℕ) (i x : ℕ) → Bytes l → i < length l → x < 256 → Bytes (set l i x)
+set-bytes : (l : List ℕ) (i x : ℕ) → AllBytes l → i < length l → x < 256 → AllBytes (set l i x)
 set-bytes l i x B h b = record { byte = λ m. at m (ℕ-discrete m i) }
   where
     at : (m : ℕ) → Dec (m ≡ i) → getD (set l i x) m 0 < 256
@@ -63,7 +63,7 @@ set-bytes l i x B h b = record { byte = λ m. at m (ℕ-discrete m i) }
     at m (no ne) = rw (getD-set-other l i m x 0 ne) (B .byte m)
 
 module _ {n v o : ℕ} {d : List ℕ} where
-  pub putting-start : Bytes d → v < 2 ^ (8 * n) → o + n ≤ length d → Putting n v o d d 0
+  pub putting-start : AllBytes d → v < 2 ^ (8 * n) → o + n ≤ length d → Putting n v o d d 0
   putting-start B h room =
       record {
         upto = zero-le;

@@ -3,7 +3,7 @@
 -- Assumes nothing.
 use mathlib.Core.Bool.{Bool, cond}
 use mathlib.Core.List.{List, [], _∷_, _++_}
-use Prim.Native.Nat.{ℕ, zero, suc, _+_, _*_, _-_, _/_, _%_, _^_}
+use Prim.Native.Nat.{ℕ, zero, suc, _+_, _*_, _-_, _/_, _%_, _^_, _<_}
 use lib.ListN.{getD, length, take, drop}
 
 -- the list f 0, f 1, .., f (n - 1)
@@ -35,6 +35,10 @@ fieldAt s i n = number n (λ q. bitAt s (i + q))
 -- the n bytes whose bits are f 0, f 1, ..
 unfoldable pub bytes : ℕ → (ℕ → ℕ) → List ℕ
 bytes n f = tabulate n (λ b. number 8 (λ i. f (8 * b + i)))
+
+-- every element is a byte
+pub record AllBytes (s : List ℕ) : Type 0 where
+  pub byte : (m : ℕ) → getD s m 0 < 256
 
 -- the elements of a over those of b, as far as both go
 unfoldable pub copied : {A : Type 0} → List A → List A → List A

@@ -15,15 +15,15 @@ use borrow.Author.Tests.{le-ltb, le-leb, lt-leb}
 use Rattle.bits.proofs.Value.{value-cong}
 use Rattle.capture.specs.declared.Read.{Read}
 use Rattle.capture.specs.declared.Read.the-variants.{Refused}
-use Rattle.capture.specs.Capture.{layout, four, refusalAt, refusedOr, orderAt, frameAt, readAt, moved, symbolsAt, wanted}
+use Rattle.capture.specs.Capture.{layout, four, refusalAt, refusedOr, orderAt, frameAt, readAt, shifted, symbolsAt, wanted}
 use Rattle.capture.specs.Local.{ReadsFromHere, ReadsWithMore, WantedReads, WantedAlike, ReadLocal}
 use Rattle.capture.proofs.Cases.{refused-short, order-refused, frame-refused, at-end, no-length, an-order, a-frame, no-lawful, symbols-none, symbols-are, wanted-first, wanted-order, wanted-frame, wanted-no-more}
 use Rattle.capture.proofs.Found.{order-found, frame-found}
 
--- a choice, moved
-moved-cond : (i : ℕ) (b : Bool) (x y : Read) → moved i (cond b x y) ≡ cond b (moved i x) (moved i y)
-moved-cond i true x y = refl
-moved-cond i false x y = refl
+-- a choice, shifted
+shifted-cond : (i : ℕ) (b : Bool) (x y : Read) → shifted i (cond b x y) ≡ cond b (shifted i x) (shifted i y)
+shifted-cond i true x y = refl
+shifted-cond i false x y = refl
 
 module _ (s : List ℕ) (i : ℕ) where
   four-here : (k : ℕ) → four (drop i s) k ≡ four s (i + k)
@@ -34,13 +34,13 @@ module _ (s : List ℕ) (i : ℕ) where
   unfolding refusalAt
   refusal-here bytes kind = simp (length-drop, getD-drop, sub-zero, zero-add)
 
-  order-here : moved i (orderAt (drop i s) 0) ≡ orderAt s i
-  unfolding orderAt refusedOr moved
-  order-here = simp (moved-cond, refusal-here, four-here)
+  order-here : shifted i (orderAt (drop i s) 0) ≡ orderAt s i
+  unfolding orderAt refusedOr shifted
+  order-here = simp (shifted-cond, refusal-here, four-here)
 
-  frame-here : moved i (frameAt (drop i s) 0) ≡ frameAt s i
-  unfolding frameAt refusedOr moved
-  frame-here = simp (moved-cond, refusal-here, four-here)
+  frame-here : shifted i (frameAt (drop i s) 0) ≡ frameAt s i
+  unfolding frameAt refusedOr shifted
+  frame-here = simp (shifted-cond, refusal-here, four-here)
 
   end-here : leb (length s - i) 0 ≡ leb (length s) i
   end-here = at (decLt i (length s))
@@ -50,8 +50,8 @@ module _ (s : List ℕ) (i : ℕ) where
       at (no h) = rw (le-leb (length s - i) 0 (omega arith)) (sym (le-leb (length s) i (omega arith)))
 
 pub reads-from-here : ReadsFromHere
-unfolding readAt moved
-reads-from-here s i = sym (simp (moved-cond, length-drop, end-here, sub-zero, four-here, add-zero, order-here, frame-here))
+unfolding readAt shifted
+reads-from-here s i = sym (simp (shifted-cond, length-drop, end-here, sub-zero, four-here, add-zero, order-here, frame-here))
 
 module _ (s t : List ℕ) (i : ℕ) where
   four-more : (k : ℕ) → i + k + 4 ≤ length s → four (s ++ t) (i + k) ≡ four s (i + k)

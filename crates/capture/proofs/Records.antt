@@ -7,11 +7,10 @@ use native.Mathlib.Decide.{decLt}
 use native.Mathlib.Omega.{arith}
 use lib.ListN.{length, getD, take, drop, length-append, length-drop, take-append-drop}
 use lib.Seq.{take-at, drop-at, drop-append-add, length-take-le, getD-take, getD-drop, drop-drop, drop-cons}
-use Rattle.bits.specs.Bits.{tabulate, value}
-use Rattle.bits.proofs.Fields.{Bytes}
+use Rattle.bits.specs.Bits.{tabulate, value, AllBytes}
 use Rattle.bits.proofs.Value.{value-lt, value-digit, value-digits}
 use Rattle.bits.proofs.Tabulate.{is-tabulate}
-use Rattle.capture.specs.Capture.{layout, four, readAt, symbolsAt, fourBytes, orderRecord, frameRecord, frameRecords, moved}
+use Rattle.capture.specs.Capture.{layout, four, readAt, symbolsAt, fourBytes, orderRecord, frameRecord, frameRecords, shifted}
 use Rattle.capture.specs.Records.{OrderReads, FrameReads, OrderFound, FrameFound, FramesRead, Records}
 use Rattle.capture.proofs.Cases.{not-refused, order-read, frame-read, an-order, a-frame, symbols-are}
 use Rattle.capture.proofs.Local.{reads-from-here, symbols-here}
@@ -43,7 +42,7 @@ frame-reads number symbols rest hn e = (
     more : length (symbols ++ rest) ≡ length symbols + length rest
     more = length-append symbols rest
 
-module _ (s : List ℕ) (B : Bytes s) where
+module _ (s : List ℕ) (B : AllBytes s) where
   four-lt : (i : ℕ) → four s i < 2 ^ 32
   unfolding four
   four-lt i = value-lt 256 4 _ (λ k l. B .byte (i + k))
@@ -156,14 +155,14 @@ module _ (numbers : ℕ → ℕ) (frames : ℕ → List ℕ) where
           rw (append-assoc, e) (rest, drop-at (frameRecords numbers frames n) (last ++ rest) (n * layout .frameBytes) (frames-length n (λ j o. h j (omega arith))))
 
 pub frames-read : FramesRead
-unfolding moved
+unfolding shifted
 frames-read n numbers frames before rest h k i l e =
     let D = frames-drop numbers frames n k rest (λ j o. h j o .1) l in
     let R = frame-reads (numbers k) (frames k) (D .0) (h k l .0) (h k l .1) in
     let at : drop i (before ++ (frameRecords numbers frames n ++ rest)) ≡ frameRecord (numbers k) (frames k) ++ D .0
     = rw e (drop-append-add before (frameRecords numbers frames n ++ rest) (k * layout .frameBytes) ∙ D .1)
     in (
-      reads-from-here _ i ∙ ap (λ (s : List ℕ). moved i (readAt s 0)) at ∙ ap (moved i) (R .0),
+      reads-from-here _ i ∙ ap (λ (s : List ℕ). shifted i (readAt s 0)) at ∙ ap (shifted i) (R .0),
       symbols-here _ i (layout .symbolsFrom) ∙ ap (λ (s : List ℕ). symbolsAt s (layout .symbolsFrom)) at ∙ R .1,
     )
 

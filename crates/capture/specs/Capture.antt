@@ -92,13 +92,6 @@ readAt s i =
     (cond (eqb (four s i) (layout .frameLength)) (frameAt s i)
     (Refused 7))))
 
--- the refusal's number; 0 where nothing is refused (01, refusal list)
-unfoldable pub refusalOf : Read → ℕ
-refusalOf End = 0
-refusalOf (Refused refusal) = refusal
-refusalOf (Order start asked allowed next) = 0
-refusalOf (Frame number from next) = 0
-
 -- the next place: neither the end nor a refusal moves it (01, under the refusal list)
 abbrev pub nextOf : Read → ℕ → ℕ
 nextOf End i = i
@@ -107,11 +100,11 @@ nextOf (Order start asked allowed next) i = next
 nextOf (Frame number from next) i = next
 
 -- what is read of the part that begins at place i, with its places counted in the whole
-unfoldable pub moved : ℕ → Read → Read
-moved i End = End
-moved i (Refused refusal) = Refused refusal
-moved i (Order start asked allowed next) = Order start asked allowed (i + next)
-moved i (Frame number from next) = Frame number (i + from) (i + next)
+unfoldable pub shifted : ℕ → Read → Read
+shifted i End = End
+shifted i (Refused refusal) = Refused refusal
+shifted i (Order start asked allowed next) = Order start asked allowed (i + next)
+shifted i (Frame number from next) = Frame number (i + from) (i + next)
 
 -- the 6,144 symbols from a place on, as the part of the capture where they lie; nothing where fewer bytes are left (01, capture records)
 unfoldable pub symbolsAt : List ℕ → ℕ → List ℕ

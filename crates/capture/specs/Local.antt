@@ -6,11 +6,11 @@ use mathlib.Core.List.{List, _++_}
 use Prim.Native.Nat.{ℕ, _+_, _≤_}
 use lib.ListN.{length, take, drop}
 use Rattle.capture.specs.declared.Read.the-variants.{End, Refused, Order, Frame}
-use Rattle.capture.specs.Capture.{layout, readAt, moved, symbolsAt, wanted}
+use Rattle.capture.specs.Capture.{layout, readAt, shifted, symbolsAt, wanted}
 
 -- what stands at a place is what stands at the beginning of the part from there on: what lies before it does not matter
 abbrev pub ReadsFromHere : Type 0
-ReadsFromHere = (s : List ℕ) (i : ℕ) → readAt s i ≡ moved i (readAt (drop i s) 0)
+ReadsFromHere = (s : List ℕ) (i : ℕ) → readAt s i ≡ shifted i (readAt (drop i s) 0)
 
 -- more bytes behind change nothing but an end and a record cut short: a whole record, and whatever refuses it, reads the same in front of them
 abbrev pub ReadsWithMore : Type 0

@@ -4,7 +4,7 @@ use mathlib.Core.Path.{_≡_}
 use mathlib.Core.List.{List, _++_}
 use Prim.Native.Nat.{ℕ, _+_, _*_, _^_, _<_}
 use lib.ListN.{length, drop}
-use Rattle.bits.proofs.Fields.{Bytes}
+use Rattle.bits.specs.Bits.{AllBytes}
 use Rattle.capture.specs.declared.Read.the-variants.{Order, Frame}
 use Rattle.capture.specs.Capture.{layout, readAt, symbolsAt, orderRecord, frameRecord, frameRecords}
 
@@ -24,14 +24,14 @@ FrameReads =
 -- where an order is read, the bytes begin with its record, and the rest lies behind the next place
 abbrev pub OrderFound : Type 0
 OrderFound =
-    (s : List ℕ) (start asked allowed next : ℕ) → Bytes s → readAt s 0 ≡ Order start asked allowed next
+    (s : List ℕ) (start asked allowed next : ℕ) → AllBytes s → readAt s 0 ≡ Order start asked allowed next
     → (start < 2 ^ 32) × (asked < 2 ^ 32) × (allowed < 2 ^ 32) × (next ≡ layout .orderBytes)
     × (s ≡ orderRecord start asked allowed ++ drop next s)
 
 -- where a frame is read, the bytes begin with its record, whose symbols lie where the answer says, and the rest lies behind the next place
 abbrev pub FrameFound : Type 0
 FrameFound =
-    (s : List ℕ) (number from next : ℕ) → Bytes s → readAt s 0 ≡ Frame number from next
+    (s : List ℕ) (number from next : ℕ) → AllBytes s → readAt s 0 ≡ Frame number from next
     → (number < 2 ^ 32) × (from ≡ layout .symbolsFrom) × (next ≡ layout .frameBytes)
     × (length (symbolsAt s from) ≡ layout .symbols) × (s ≡ frameRecord number (symbolsAt s from) ++ drop next s)
 

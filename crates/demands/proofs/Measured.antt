@@ -31,8 +31,8 @@ use Rattle.capture.specs.declared.Read.{Read}
 use Rattle.capture.specs.declared.Read.the-variants.{End, Refused, Order, Frame}
 use Rattle.capture.specs.Capture.{readAt, nextOf, symbolsAt, inTurn}
 use Rattle.bench.specs.declared.Phase.{Phase}
-use Rattle.bench.specs.declared.Phase.the-variants.{Going, Stopped}
-use Rattle.bench.specs.Run.{State, noted, framed, orderCame, frameCame, cameAs, goesOn}
+use Rattle.bench.specs.declared.Phase.the-variants.{Unordered, Going, Stopped}
+use Rattle.bench.specs.Run.{State, noted, framed, orderCame, frameCame, halted, cameAs, goesOn}
 use Rattle.bench.specs.Walk.{walked}
 use Rattle.bench.proofs.Walk.{came-stays, refused-stops}
 use Rattle.demands.specs.Verdict.{wordsWith, wordsIn}
@@ -202,3 +202,59 @@ module _ (start asked allowed : ℕ) (frames : ℕ → List ℕ) where
       go true l (no n) r = inl (framed-lost (after start asked allowed frames k) number f (inl (ahead-of n)))
       go true l (yes n) (yes z) = inr (n, l, (let u = under _ (frame-taken a number (talliesOf a number (receivedFlags f)) z .within) .0 in omega arith))
       go true l (yes n) (no z) = inl (refused-lost (after start asked allowed frames k) number f l z)
+
+-- ---- 384 words for each frame accepted, in every run
+
+abbrev Counted : State → Type 0
+Counted st = total (st .run .account .words) ≡ 384 * st .run .account .accepted
+
+noted-counted : (st : State) (e : Entry) (s : List ℕ) → Counted st → (e .refusal ≡ 0 → total (e .account .words) ≡ 384 * e .account .accepted) → Counted (noted st e s)
+noted-counted st e s C h = go (ℕ-discrete (e .refusal) 0)
+  where
+    go : Dec (e .refusal ≡ 0) → Counted (noted st e s)
+    go (yes z) = rw z (h z)
+    go (no n) = rw (ne-eqb (e .refusal) 0 n) C
+
+framed-counted : (st : State) (got : ℕ) (f : List ℕ) → Counted st → Counted (framed st got f)
+unfolding framed
+framed-counted st got f C = go (locks f 0) refl
+  where
+    a : Account
+    a = st .run .account
+
+    t : Tallies
+    t = talliesOf a got (receivedFlags f)
+
+    go : (l : Bool) → locks f 0 ≡ l → Counted (framed st got f)
+    go true e = rw e (noted-counted st (frameEntered a got t) (receivedStore f (st .store)) C (λ z. let T = frame-taken a got t z in rw (T .taken) (let d = T .all-due in omega arith)))
+    go false e = rw e (noted-counted st (lossEntered a got) (st .store) C (λ z. rw (loss-taken a got z .taken) (omega arith)))
+
+order-counted : (p : Phase) (st : State) (start asked allowed : ℕ) → Counted st → Counted (orderCame p st start asked allowed)
+unfolding orderCame
+order-counted Unordered st start asked allowed C = refl
+order-counted Going st start asked allowed C = C
+order-counted Stopped st start asked allowed C = C
+
+frame-counted : (p : Phase) (st : State) (got : ℕ) (f : List ℕ) → Counted st → Counted (frameCame p st got f)
+unfolding frameCame
+frame-counted Unordered st got f C = C
+frame-counted Going st got f C = framed-counted st got f C
+frame-counted Stopped st got f C = C
+
+halted-counted : (p : Phase) (st : State) → Counted st → total (halted p (st .run) .account .words) ≡ 384 * halted p (st .run) .account .accepted
+unfolding halted
+halted-counted Unordered st C = C
+halted-counted Going st C = C
+halted-counted Stopped st C = C
+
+came-counted : (read : Read) (st : State) (s : List ℕ) → Counted st → Counted (cameAs read st s)
+unfolding cameAs
+came-counted End st s C = C
+came-counted (Refused refusal) st s C = halted-counted (st .run .phase) st C
+came-counted (Order start asked allowed next) st s C = order-counted (st .run .phase) st start asked allowed C
+came-counted (Frame number from next) st s C = frame-counted (st .run .phase) st number (symbolsAt s from) C
+
+pub walked-counted : (n : ℕ) (s : List ℕ) (i : ℕ) (st : State) → Counted st → Counted (walked n s i st)
+unfolding walked
+walked-counted zero s i st C = C
+walked-counted (suc n) s i st C = walked-counted n s (nextOf (readAt s i) i) (cameAs (readAt s i) st s) (came-counted (readAt s i) st s C)

@@ -8,8 +8,8 @@ use native.Mathlib.Omega.{arith}
 use lib.ListN.{length, replicate, length-replicate, getD-replicate}
 use lib.Seq.{ext-getD}
 use lib.Bits.{xor-self}
-use Rattle.bits.specs.Bits.{value, bitOf, bitAt}
-use Rattle.bits.proofs.Fields.{Bytes, byte-field, field-is}
+use Rattle.bits.specs.Bits.{value, bitOf, bitAt, AllBytes}
+use Rattle.bits.proofs.Fields.{byte-field, field-is}
 use Rattle.bits.proofs.Weight.{weight, weight-zero}
 use Rattle.bch.specs.Code.{CodeWord, distance}
 use Rattle.bch.proofs.Distance.{distance-weight}
@@ -118,8 +118,8 @@ one-frame ex lanes sentNumbers numbers back flagBytes U =
     whole : length (back 0) ≡ 5280
     whole = return ex 1 lanes sentNumbers numbers back flagBytes U .1 0 (omega arith) .0
 
-    bytes : Bytes (back 0)
-    bytes = subst Bytes (sym is) (lanes-bytes ex (U .frames 0) (U .stores 0))
+    bytes : AllBytes (back 0)
+    bytes = subst AllBytes (sym is) (lanes-bytes ex (U .frames 0) (U .stores 0))
 
     zeros : (j : ℕ) → j < 42240 → bitAt (back 0) j ≡ 0
     zeros j h =

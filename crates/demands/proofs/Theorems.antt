@@ -5,7 +5,7 @@ use Rattle.demands.proofs.Return.{return, one-frame}
 use Rattle.demands.proofs.Trial.{refused-exactly, flips-counted, trials-exist, undamaged-exist}
 use Rattle.demands.proofs.OneForAll.{one-for-all, two-flips}
 use Rattle.demands.proofs.Tallies.{tallies-alike}
-use Rattle.demands.proofs.Verdict.{pass-exactly, fail-exactly, not-measured-exactly, program-says, measured-once, reports-exist, never-pass, all-counted}
+use Rattle.demands.proofs.Verdict.{pass-exactly, fail-exactly, not-measured-exactly, program-says, measured-once, examinations-exist, arrived-always, never-pass, all-counted, always-counted}
 use Rattle.demands.proofs.Labels.{spans-label}
 use Rattle.demands.proofs.ReedSolomon.{carries-exactly, reed-solomon-bound, four-pairs}
 use Rattle.demands.proofs.Exceeded.{spans-exist, other-places, other-pairs}
@@ -22,9 +22,11 @@ demands =
       notMeasured = not-measured-exactly;
       program = program-says;
       oneMeaning = measured-once;
-      reports = reports-exist;
+      examinations = examinations-exist;
       neverPass = never-pass;
+      arrived = arrived-always;
       allCounted = all-counted;
+      alwaysCounted = always-counted;
       oneForAll = one-for-all;
       tallies = tallies-alike;
       trials = trials-exist;

@@ -3,38 +3,40 @@
 use mathlib.Core.Path.{_≡_, refl, sym, ap, _∙_, subst}
 use mathlib.Core.Bool.{Bool, true, false, cond, not, false≢true}
 use mathlib.Core.Logic.{_≢_, _⊎_, inl, inr}
-use mathlib.Core.List.{List, [], _∷_, _++_, append-nil}
-use Prim.Native.Nat.{ℕ, zero, suc, _+_, _^_, _≤_, _<_}
+use mathlib.Core.List.{List, [], _∷_, _++_, append-assoc, append-nil}
+use Prim.Native.Nat.{ℕ, zero, suc, _+_, _*_, _^_, _≤_, _<_}
 use Prim.Native.String.{String}
+use native.Mathlib.Decide.{decLt}
 use native.Mathlib.Omega.{arith}
 use lib.Dec.{leb}
 use lib.ListN.{length, getD, take, drop, length-append}
-use lib.Seq.{take-append-seam, take-length}
+use lib.Seq.{take-append-seam, take-length, drop-at}
 use borrow.Author.Tests.{le-leb, lt-leb}
-use Rattle.bits.specs.Bits.{tabulate}
-use Rattle.bits.proofs.Fields.{Bytes}
+use Rattle.bits.specs.Bits.{tabulate, AllBytes}
 use Rattle.symbols.specs.Pilots.{locks}
 use Rattle.account.specs.declared.Verdict.{Verdict}
 use Rattle.account.specs.declared.Verdict.the-variants.{NotMeasured, Pass, Fail}
-use Rattle.account.specs.Account.{verdict, verdictNumber}
+use Rattle.account.specs.Account.{frameLimit, verdict, verdictNumber}
 use Rattle.account.proofs.Judged.{MeasuredNumbers, measured-by, judged, passed, failed}
 use Rattle.capture.specs.declared.Read.{Read}
 use Rattle.capture.specs.declared.Read.the-variants.{End, Refused, Order, Frame}
-use Rattle.capture.specs.Capture.{layout, readAt, symbolsAt, orderRecord, inTurn, frameRecords}
+use Rattle.capture.specs.Capture.{layout, readAt, shifted, symbolsAt, orderRecord, frameRecord, inTurn, frameRecords}
+use Rattle.capture.proofs.Cases.{at-end}
+use Rattle.capture.proofs.Local.{reads-from-here}
 use Rattle.capture.proofs.Records.{records}
 use Rattle.bench.specs.declared.Run.{Run}
 use Rattle.bench.specs.Run.{State, fresh, stopped, stepped, goesOn, verdictOf}
-use Rattle.bench.specs.Walk.{examined, pieces, through, Followed}
+use Rattle.bench.specs.Walk.{examined, pieces, through}
 use Rattle.bench.specs.Report.{ascii, words, text, writtenBytes, written}
 use Rattle.bench.proofs.Walk.{pieces-alike, none-left}
-use Rattle.demands.specs.Verdict.{Measured, measuredRun, flaggedWords, Stepwise, Reported, Line, PassExactly, FailExactly, NotMeasuredExactly, ProgramSays, MeasuredOnce, ReportsExist, NeverPass, AllCounted}
-use Rattle.demands.proofs.Measured.{all-words}
-use Rattle.demands.proofs.Walked.{framePlace, measured-run, measured-back}
+use Rattle.demands.specs.Verdict.{Measured, measuredRun, flaggedWords, Stepwise, Examination, Line, PassExactly, FailExactly, NotMeasuredExactly, ProgramSays, MeasuredOnce, ExaminationsExist, Arrived, ArrivedAlways, NeverPass, AllCounted, AlwaysCounted}
+use Rattle.demands.proofs.Measured.{all-words, walked-counted}
+use Rattle.demands.proofs.Walked.{framePlace, framesIn, found, whole-symbols, ends-inside, record-there, up-to, measured-run, measured-back}
 use Rattle.demands.proofs.Lines.{text-lines, verdict-said}
 
 -- ---- the verdict of a run
 
-module _ (s : List ℕ) (B : Bytes s) where
+module _ (s : List ℕ) (B : AllBytes s) where
   -- a verdict other than NOT MEASURED is given to a measured capture, by its flagged words
   told : (v : Verdict) → verdictOf (examined s .run) ≡ v → verdictNumber v ≢ 0 → (m : Measured s) × (cond (leb (flaggedWords m) (m .allowed)) Pass Fail ≡ v)
   unfolding verdictOf
@@ -103,7 +105,7 @@ run-is : (s : List ℕ) (r : Run) → (r ≡ examined s .run) ⊎ Stepwise s r �
 run-is s r (inl e) = e
 run-is s r (inr S) = S .last ∙ ap (λ (st : State). st .run) (sym (stepwise (pieces s) (S .states) (S .call)) ∙ ap (λ (st : State). through st (pieces s)) (S .first) ∙ pieces-alike s)
 
-module _ (s report : List ℕ) (R : Reported s report) where
+module _ (s report : List ℕ) (R : Examination s report) where
   report-is : report ≡ text (examined s .run)
   unfolding writtenBytes written
   report-is =
@@ -160,29 +162,30 @@ stopped-verdict : (r : Run) → verdictOf (stopped r) ≡ NotMeasured
 unfolding verdictOf goesOn verdict
 stopped-verdict r = refl
 
-pub program-says : ProgramSays
-unfolding words tabulate verdictNumber
-program-says s r B F = (λ L. at F (line-said r "verdict PASS" Pass refl L), λ e. line-stands r "verdict NOT MEASURED" NotMeasured refl (ap verdictOf e ∙ stopped-verdict (examined s .run)))
-  where
-    at : Followed s r → verdictOf r ≡ Pass → (m : Measured s) × (flaggedWords m ≤ m .allowed)
-    at (inl e) p =
-        let T = told s B Pass (ap verdictOf (sym e) ∙ p) (λ (z : _≡_ {A = ℕ} 1 0). omega arith) in (T .0, passed (flaggedWords (T .0)) (T .0 .allowed) (T .1))
-    at (inr e) p = absurd (let z : _≡_ {A = ℕ} 0 1 = ap verdictNumber (sym (stopped-verdict (examined s .run)) ∙ ap verdictOf (sym e) ∙ p) in omega arith)
+-- the report in a buffer that holds it
+examination : (s buffer : List ℕ) → length (text (examined s .run)) ≤ length buffer
+    → Examination s (take (writtenBytes (examined s .run) buffer) (written (examined s .run) buffer))
+examination s buffer h =
+    record { run = examined s .run; walk = inl refl; buffer = buffer; out = written (examined s .run) buffer; bytes = writtenBytes (examined s .run) buffer; holds = h; answered = refl; left = refl; printed = refl }
 
-pub reports-exist : ReportsExist
-reports-exist s = (
-  examined s .run,
-  refl,
-  steps-exist s,
-  λ buffer h. (take (writtenBytes (examined s .run) buffer) (written (examined s .run) buffer), record { run = examined s .run; walk = inl refl; buffer = buffer; out = written (examined s .run) buffer; bytes = writtenBytes (examined s .run) buffer; holds = h; answered = refl; left = refl; printed = refl }),
-)
+pub program-says : ProgramSays
+unfolding words tabulate
+program-says s =
+    let r = examined s .run in
+    let e = examination s (text r) (omega arith) in
+    (subst (Examination s) (report-is s _ e) e, line-stands (stopped r) "verdict NOT MEASURED" NotMeasured refl (stopped-verdict r))
+
+pub examinations-exist : ExaminationsExist
+unfolding examination
+examinations-exist s = (steps-exist s, λ buffer h. (take (writtenBytes (examined s .run) buffer) (written (examined s .run) buffer), examination s buffer h, refl))
 
 pub all-counted : AllCounted
-all-counted s report B R L =
-    let P = pass-exactly s report B R .0 L in
-    (P .0, report-is s report R ∙ ap text (measured-run s (P .0)), all-words (P .0 .frames) (P .0 .asked))
+all-counted s report B E L =
+    let P = pass-exactly s report B E .0 L in
+    let e = measured-run s (P .0) in
+    (P .0, e, report-is s report E ∙ ap text e, all-words (P .0 .frames) (P .0 .asked))
 
--- ---- what stands in a measured capture
+-- ---- a capture as it may come
 
 -- the numbers that are read: of an order its three, of a frame its own
 abbrev numbersRead : Read → ℕ × ℕ × ℕ
@@ -191,64 +194,194 @@ numbersRead (Refused refusal) = (0, 0, 0)
 numbersRead (Order start asked allowed next) = (start, asked, allowed)
 numbersRead (Frame number from next) = (number, 0, 0)
 
--- an order, then n frame records with any numbers, then anything: what is read of it
-module _ (start asked allowed n : ℕ) (numbers : ℕ → ℕ) (frames : ℕ → List ℕ) (rest s : List ℕ) (is : s ≡ orderRecord start asked allowed ++ (frameRecords numbers frames n ++ rest))
-    (small : (start < 2 ^ 32) × (asked < 2 ^ 32) × (allowed < 2 ^ 32)) (whole : (k : ℕ) → k < n → (numbers k < 2 ^ 32) × (length (frames k) ≡ layout .symbols)) where
-  order-there : numbersRead (readAt s 0) ≡ (start, asked, allowed)
-  order-there = ap (λ (x : List ℕ). numbersRead (readAt x 0)) is ∙ ap numbersRead (records .orderReads start asked allowed (frameRecords numbers frames n ++ rest) (small .0) (small .1) (small .2))
+-- whether a frame is read
+abbrev isFrame : Read → Bool
+isFrame End = false
+isFrame (Refused refusal) = false
+isFrame (Order start asked allowed next) = false
+isFrame (Frame number from next) = true
 
-  frame-there : (k : ℕ) → k < n → (numbersRead (readAt s (framePlace k)) .0 ≡ numbers k) × (symbolsAt s (framePlace k + layout .symbolsFrom) ≡ frames k)
+frame-shifted : (i : ℕ) (r : Read) → isFrame (shifted i r) ≡ isFrame r
+unfolding shifted
+frame-shifted i End = refl
+frame-shifted i (Refused refusal) = refl
+frame-shifted i (Order start asked allowed next) = refl
+frame-shifted i (Frame number from next) = refl
+
+no-frame : (r : Read) → ((number from next : ℕ) → r ≢ Frame number from next) → isFrame r ≡ false
+no-frame End h = refl
+no-frame (Refused refusal) h = refl
+no-frame (Order start asked allowed next) h = refl
+no-frame (Frame number from next) h = absurd (h number from next refl)
+
+-- what is read of it
+module _ (s : List ℕ) (a : Arrived s) where
+  order-there : numbersRead (readAt s 0) ≡ (a .start, a .asked, a .allowed)
+  order-there =
+      ap (λ (x : List ℕ). numbersRead (readAt x 0)) (a .capture)
+      ∙ ap numbersRead (records .orderReads (a .start) (a .asked) (a .allowed) (frameRecords (a .numbers) (a .frames) (a .n) ++ a .rest) (a .small .0) (a .small .1) (a .small .2))
+
+  frame-there : (k : ℕ) → k < a .n
+      → (readAt s (framePlace k) ≡ Frame (a .numbers k) (framePlace k + layout .symbolsFrom) (framePlace k + layout .frameBytes)) × (symbolsAt s (framePlace k + layout .symbolsFrom) ≡ a .frames k)
   frame-there k h =
-      let R = records .framesRead n numbers frames (orderRecord start asked allowed) rest whole k (framePlace k) h (let o = records .recordLengths .0 start asked allowed in omega arith) in (
-        ap (λ (x : List ℕ). numbersRead (readAt x (framePlace k)) .0) is ∙ ap (λ (r : Read). numbersRead r .0) (R .0),
-        ap (λ (x : List ℕ). symbolsAt x (framePlace k + layout .symbolsFrom)) is ∙ R .1,
-      )
+      let R = records .framesRead (a .n) (a .numbers) (a .frames) (orderRecord (a .start) (a .asked) (a .allowed)) (a .rest) (a .whole) k (framePlace k) h (let o = records .recordLengths .0 (a .start) (a .asked) (a .allowed) in omega arith) in
+      (ap (λ (x : List ℕ). readAt x (framePlace k)) (a .capture) ∙ R .0, ap (λ (x : List ℕ). symbolsAt x (framePlace k + layout .symbolsFrom)) (a .capture) ∙ R .1)
 
-  length-there : length s ≡ framePlace n + length rest
+  frames-long : length (frameRecords (a .numbers) (a .frames) (a .n)) ≡ a .n * layout .frameBytes
+  frames-long = records .recordLengths .2 (a .n) (a .numbers) (a .frames) (λ k l. a .whole k l .1)
+
+  length-there : length s ≡ framePlace (a .n) + length (a .rest)
   length-there =
-      ap length is ∙ length-append (orderRecord start asked allowed) (frameRecords numbers frames n ++ rest)
-      ∙ (let o = records .recordLengths .0 start asked allowed in
-      let f = records .recordLengths .2 n numbers frames (λ k l. whole k l .1) in
-      let both : length (frameRecords numbers frames n ++ rest) ≡ length (frameRecords numbers frames n) + length rest = length-append (frameRecords numbers frames n) rest in omega arith)
+      ap length (a .capture) ∙ length-append (orderRecord (a .start) (a .asked) (a .allowed)) (frameRecords (a .numbers) (a .frames) (a .n) ++ a .rest)
+      ∙ (let o = records .recordLengths .0 (a .start) (a .asked) (a .allowed) in
+      let f = frames-long in
+      let both : length (frameRecords (a .numbers) (a .frames) (a .n) ++ a .rest) ≡ length (frameRecords (a .numbers) (a .frames) (a .n)) + length (a .rest) = length-append (frameRecords (a .numbers) (a .frames) (a .n)) (a .rest) in omega arith)
 
--- a measured capture is one of these
-module _ (s : List ℕ) (m : Measured s) where
-  as-records : s ≡ orderRecord (m .start) (m .asked) (m .allowed) ++ (frameRecords (inTurn (m .start)) (m .frames) (m .asked) ++ [])
-  as-records = m .capture ∙ ap (λ (l : List ℕ). orderRecord (m .start) (m .asked) (m .allowed) ++ l) (sym (append-nil (frameRecords (inTurn (m .start)) (m .frames) (m .asked))))
+  -- behind the frames stands none
+  rest-there : isFrame (readAt s (framePlace (a .n))) ≡ false
+  rest-there =
+      ap isFrame (reads-from-here s (framePlace (a .n))) ∙ frame-shifted (framePlace (a .n)) (readAt (drop (framePlace (a .n)) s) 0)
+      ∙ ap (λ (x : List ℕ). isFrame (readAt x 0)) behind ∙ no-frame (readAt (a .rest) 0) (a .noFrame)
+    where
+      behind : drop (framePlace (a .n)) s ≡ a .rest
+      behind =
+          ap (drop (framePlace (a .n))) (a .capture ∙ sym (append-assoc (orderRecord (a .start) (a .asked) (a .allowed)) (frameRecords (a .numbers) (a .frames) (a .n)) (a .rest)))
+          ∙ drop-at (orderRecord (a .start) (a .asked) (a .allowed) ++ frameRecords (a .numbers) (a .frames) (a .n)) (a .rest) (framePlace (a .n))
+          (length-append (orderRecord (a .start) (a .asked) (a .allowed)) (frameRecords (a .numbers) (a .frames) (a .n)) ∙ (let o = records .recordLengths .0 (a .start) (a .asked) (a .allowed) in let f = frames-long in omega arith))
 
-  whole-frames : (k : ℕ) → k < m .asked → (inTurn (m .start) k < 2 ^ 32) × (length (m .frames k) ≡ layout .symbols)
-  whole-frames k h = (omega arith, m .whole k h)
+-- one capture comes in one way
+not-fewer : (s : List ℕ) (a b : Arrived s) → a .n < b .n → ⊥
+not-fewer s a b h = false≢true (sym (rest-there s a) ∙ ap isFrame (frame-there s b (a .n) h .0))
 
-  measured-order : numbersRead (readAt s 0) ≡ (m .start, m .asked, m .allowed)
-  measured-order = order-there (m .start) (m .asked) (m .allowed) (m .asked) (inTurn (m .start)) (m .frames) [] s as-records (m .numbers) whole-frames
+as-many : (s : List ℕ) (a b : Arrived s) → a .n ≡ b .n
+as-many s a b = go (decLt (a .n) (b .n)) (decLt (b .n) (a .n))
+  where
+    go : Dec (a .n < b .n) → Dec (b .n < a .n) → a .n ≡ b .n
+    go (yes h) k = absurd (not-fewer s a b h)
+    go (no h) (yes k) = absurd (not-fewer s b a k)
+    go (no h) (no k) = omega arith
 
-  measured-frame : (k : ℕ) → k < m .asked → (numbersRead (readAt s (framePlace k)) .0 ≡ inTurn (m .start) k) × (symbolsAt s (framePlace k + layout .symbolsFrom) ≡ m .frames k)
-  measured-frame = frame-there (m .start) (m .asked) (m .allowed) (m .asked) (inTurn (m .start)) (m .frames) [] s as-records (m .numbers) whole-frames
+same-order : (s : List ℕ) (a b : Arrived s) → _≡_ {A = ℕ × ℕ × ℕ} (a .start, a .asked, a .allowed) (b .start, b .asked, b .allowed)
+same-order s a b = sym (order-there s a) ∙ order-there s b
 
-  measured-length : length s ≡ framePlace (m .asked) + 0
-  measured-length = length-there (m .start) (m .asked) (m .allowed) (m .asked) (inTurn (m .start)) (m .frames) [] s as-records (m .numbers) whole-frames
+same-frame : (s : List ℕ) (a b : Arrived s) (k : ℕ) → k < a .n → k < b .n → (a .numbers k ≡ b .numbers k) × (a .frames k ≡ b .frames k)
+same-frame s a b k h l =
+    (ap (λ (r : Read). numbersRead r .0) (sym (frame-there s a k h .0) ∙ frame-there s b k l .0), sym (frame-there s a k h .1) ∙ frame-there s b k l .1)
+
+-- a measured capture came so
+abbrev of-measured : (s : List ℕ) → Measured s → Arrived s
+of-measured s m =
+    record {
+      start = m .start;
+      asked = m .asked;
+      allowed = m .allowed;
+      n = m .asked;
+      numbers = inTurn (m .start);
+      frames = m .frames;
+      rest = [];
+      small = m .numbers;
+      whole = λ k h. (omega arith, m .whole k h);
+      noFrame = λ number from next e. false≢true (ap isFrame (at-end [] 0 (omega arith) ∙ e));
+      capture = m .capture ∙ ap (λ (l : List ℕ). orderRecord (m .start) (m .asked) (m .allowed) ++ l) (sym (append-nil (frameRecords (inTurn (m .start)) (m .frames) (m .asked))));
+    }
 
 pub measured-once : MeasuredOnce
 measured-once s m n =
-    let e = sym (measured-order s m) ∙ measured-order s n in
+    let e = same-order s (of-measured s m) (of-measured s n) in
     let asked : m .asked ≡ n .asked = ap (λ (t : ℕ × ℕ × ℕ). t .1) e in (
       ap (λ (t : ℕ × ℕ × ℕ). t .0) e,
       asked,
       ap (λ (t : ℕ × ℕ × ℕ). t .2) e,
-      λ k h. sym (measured-frame s m k h .1) ∙ measured-frame s n k (omega arith) .1,
+      λ k h. same-frame s (of-measured s m) (of-measured s n) k h (omega arith) .1,
     )
 
+-- ---- never PASS
+
+module _ (s report : List ℕ) (B : AllBytes s) (E : Examination s report) (a : Arrived s) (L : Line "verdict PASS" report) where
+  abbrev m : Measured s
+  m = pass-exactly s report B E .0 L .0
+
+  all-came : a .n ≡ m .asked
+  all-came = as-many s a (of-measured s m)
+
+  asked-is : a .asked ≡ m .asked
+  asked-is = ap (λ (t : ℕ × ℕ × ℕ). t .1) (same-order s a (of-measured s m))
+
+  in-its-turn : (k : ℕ) → k < a .n → a .numbers k ≡ inTurn (a .start) k
+  in-its-turn k h =
+      same-frame s a (of-measured s m) k h (let e = all-came in omega arith) .0 ∙ ap (λ (x : ℕ). inTurn x k) (sym (ap (λ (t : ℕ × ℕ × ℕ). t .0) (same-order s a (of-measured s m))))
+
+  nothing-more : a .rest ≡ []
+  nothing-more = none-left 0 (a .rest) (let l = length-there s a in let k = length-there s (of-measured s m) in let e = all-came in omega arith)
+
+  each-locks : (k : ℕ) → k < a .n → locks (a .frames k) 0 ≡ true
+  each-locks k h = let l : k < m .asked = (let e = all-came in omega arith) in ap (λ (f : List ℕ). locks f 0) (same-frame s a (of-measured s m) k h l .1) ∙ m .locked k l
+
+  few : a .n ≤ frameLimit
+  few = let w = m .within in let e = all-came in omega arith
+
+-- numbers in their turn differ
+turns-differ : (start j k : ℕ) → j < k → k < 2 ^ 32 → inTurn start j ≢ inTurn start k
+turns-differ start j k h l e = omega arith
+
 pub never-pass : NeverPass
-never-pass start asked allowed n numbers frames rest report small whole short B R L =
-    let s : List ℕ = orderRecord start asked allowed ++ (frameRecords numbers frames n ++ rest) in
-    let m : Measured s = pass-exactly s report B R .0 L .0 in
-    let e = sym (order-there start asked allowed n numbers frames rest s refl small whole) ∙ measured-order s m in
-    let l = sym (length-there start asked allowed n numbers frames rest s refl small whole) ∙ measured-length s m in
-    let starts : start ≡ m .start = ap (λ (t : ℕ × ℕ × ℕ). t .0) e in
-    let all : asked ≡ m .asked = ap (λ (t : ℕ × ℕ × ℕ). t .1) e in
-    let as-many : n ≡ m .asked = omega arith in (
-      as-many ∙ sym all,
-      λ k h. sym (frame-there start asked allowed n numbers frames rest s refl small whole k h .0) ∙ measured-frame s m k (omega arith) .0 ∙ ap (λ (x : ℕ). inTurn x k) (sym starts),
-      λ k h. ap (λ (f : List ℕ). locks f 0) (sym (frame-there start asked allowed n numbers frames rest s refl small whole k h .1) ∙ measured-frame s m k (omega arith) .1) ∙ m .locked k (omega arith),
-      none-left 0 rest (omega arith),
-    )
+never-pass =
+    record {
+      missing = λ s report B E a i h none L. none i (let e = all-came s report B E a L in let f = asked-is s report B E a L in omega arith) (in-its-turn s report B E a L i (let e = all-came s report B E a L in let f = asked-is s report B E a L in omega arith));
+      doubled = λ s report B E a j k h l e L. turns-differ (a .start) j k h (let f = few s report B E a L in omega arith) (sym (in-its-turn s report B E a L j (omega arith)) ∙ e ∙ in-its-turn s report B E a L k l);
+      outOfOrder = λ s report B E a k h n L. n (in-its-turn s report B E a L k h);
+      cut = λ s report B E a n L. n (nothing-more s report B E a L);
+      unlocked = λ s report B E a k h n L. false≢true (sym n ∙ each-locks s report B E a L k h);
+    }
+
+-- ---- every capture that begins with an order
+
+numberIn : List ℕ → ℕ → ℕ
+numberIn s k = numbersRead (readAt s (framePlace k)) .0
+
+-- so far it is an order and k frames
+record Prefix (s : List ℕ) (start asked allowed k : ℕ) : Type 0 where
+  pub whole : (j : ℕ) → j < k → (numberIn s j < 2 ^ 32) × (length (framesIn s j) ≡ layout .symbols)
+  pub capture : s ≡ orderRecord start asked allowed ++ (frameRecords (numberIn s) (framesIn s) k ++ drop (framePlace k) s)
+
+module _ (s : List ℕ) (B : AllBytes s) (start asked allowed : ℕ) (small : (start < 2 ^ 32) × (asked < 2 ^ 32) × (allowed < 2 ^ 32)) where
+  no-more : (k : ℕ) → Prefix s start asked allowed k → ((number from next : ℕ) → readAt (drop (framePlace k) s) 0 ≢ Frame number from next) → Arrived s
+  no-more k P h =
+      record { start = start; asked = asked; allowed = allowed; n = k; numbers = numberIn s; frames = framesIn s; rest = drop (framePlace k) s; small = small; whole = P .whole; noFrame = h; capture = P .capture }
+
+  one-frame : (k number from next : ℕ) → Prefix s start asked allowed k → readAt (drop (framePlace k) s) 0 ≡ Frame number from next → Prefix s start asked allowed (suc k)
+  unfolding frameRecords shifted numberIn
+  one-frame k number from next P e =
+      let is : numberIn s k ≡ number = ap (λ (r : Read). numbersRead r .0) (reads-from-here s (framePlace k) ∙ ap (shifted (framePlace k)) e) in
+      record {
+        whole = up-to k (P .whole) (rw is (found s B k number from next e .0), whole-symbols s B k number from next e);
+        capture =
+            P .capture
+            ∙ ap (λ (x : List ℕ). orderRecord start asked allowed ++ x)
+            (ap (λ (x : List ℕ). frameRecords (numberIn s) (framesIn s) k ++ x) (record-there s B k number from next e ∙ ap (λ (x : ℕ). frameRecord x (framesIn s k) ++ drop (framePlace (suc k)) s) (sym is))
+            ∙ sym (append-assoc (frameRecords (numberIn s) (framesIn s) k) (frameRecord (numberIn s k) (framesIn s k)) (drop (framePlace (suc k)) s)));
+      }
+
+  -- a frame or none
+  by-read : (k : ℕ) (r : Read) → readAt (drop (framePlace k) s) 0 ≡ r → Prefix s start asked allowed k
+      → ((number from next : ℕ) → readAt (drop (framePlace k) s) 0 ≡ Frame number from next → Arrived s) → Arrived s
+  by-read k End e P more = no-more k P (λ number from next z. false≢true (ap isFrame (sym e ∙ z)))
+  by-read k (Refused refusal) e P more = no-more k P (λ number from next z. false≢true (ap isFrame (sym e ∙ z)))
+  by-read k (Order x y w after) e P more = no-more k P (λ number from next z. false≢true (ap isFrame (sym e ∙ z)))
+  by-read k (Frame number from next) e P more = more number from next e
+
+  arrives : (m k : ℕ) → length s ≤ framePlace k + m → Prefix s start asked allowed k → Arrived s
+  arrives zero k h P = by-read k (readAt (drop (framePlace k) s) 0) refl P (λ number from next e. absurd (let i = ends-inside s B k number from next e in omega arith))
+  arrives (suc m) k h P = by-read k (readAt (drop (framePlace k) s) 0) refl P (λ number from next e. arrives m (suc k) (omega arith) (one-frame k number from next P e))
+
+pub arrived-always : ArrivedAlways
+unfolding frameRecords
+arrived-always s start asked allowed next B e =
+    let O = records .orderFound s start asked allowed next B e in
+    let at : next ≡ framePlace 0 = O .3 in
+    arrives s B start asked allowed (O .0, O .1, O .2) (length s) 0 (omega arith)
+    (record { whole = λ j l. absurd (omega arith); capture = O .4 ∙ ap (λ (i : ℕ). orderRecord start asked allowed ++ drop i s) at })
+
+pub always-counted : AlwaysCounted
+unfolding examined
+always-counted s = walked-counted (length s) s 0 fresh refl

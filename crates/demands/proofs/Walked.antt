@@ -9,15 +9,15 @@ use native.Mathlib.Decide.{decLt}
 use native.Mathlib.Omega.{arith}
 use lib.ListN.{length, drop, replicate, length-append, length-drop}
 use lib.Seq.{drop-drop, getD-drop}
-use Rattle.bits.proofs.Fields.{Bytes}
+use Rattle.bits.specs.Bits.{AllBytes}
 use Rattle.symbols.specs.Pilots.{locks}
 use Rattle.account.specs.Account.{frameLimit, noWords, measured}
 use Rattle.account.proofs.Judged.{measured-means}
 use Rattle.capture.specs.declared.Read.{Read}
 use Rattle.capture.specs.declared.Read.the-variants.{End, Refused, Order, Frame}
-use Rattle.capture.specs.Capture.{layout, readAt, nextOf, moved, symbolsAt, orderRecord, frameRecord, inTurn, frameRecords}
+use Rattle.capture.specs.Capture.{layout, readAt, nextOf, shifted, symbolsAt, orderRecord, frameRecord, inTurn, frameRecords}
 use Rattle.capture.proofs.Cases.{at-end}
-use Rattle.capture.proofs.Found.{order-found, frame-found}
+use Rattle.capture.proofs.Found.{frame-found}
 use Rattle.capture.proofs.Local.{reads-from-here, symbols-here}
 use Rattle.capture.proofs.Records.{records}
 use Rattle.bench.specs.declared.Phase.the-variants.{Going, Stopped}
@@ -69,11 +69,11 @@ module _ (start asked allowed : ℕ) (frames : ℕ → List ℕ) (hs : start < 2
   measured-state : examined bytes ≡ after start asked allowed frames asked
   unfolding examined
   measured-state =
-      let l : length bytes ≡ suc (17 + asked * layout .frameBytes) = bytes-length ∙ (omega arith) in
+      let l : length bytes ≡ suc (layout .orderBytes - 1 + asked * layout .frameBytes) = bytes-length ∙ (omega arith) in
       ap (λ (m : ℕ). walked m bytes 0 fresh) l
-      ∙ walked-one (17 + asked * layout .frameBytes) bytes 0 fresh _ (records .orderReads start asked allowed (frameRecords (inTurn start) frames asked ++ []) hs ha hw)
-      ∙ ap (walked (17 + asked * layout .frameBytes) bytes (layout .orderBytes)) (ordered-first start asked allowed frames hs bytes (layout .orderBytes))
-      ∙ walks-on asked (17 + asked * layout .frameBytes) 0 (omega arith) (omega arith)
+      ∙ walked-one (layout .orderBytes - 1 + asked * layout .frameBytes) bytes 0 fresh _ (records .orderReads start asked allowed (frameRecords (inTurn start) frames asked ++ []) hs ha hw)
+      ∙ ap (walked (layout .orderBytes - 1 + asked * layout .frameBytes) bytes (layout .orderBytes)) (ordered-first start asked allowed frames hs bytes (layout .orderBytes))
+      ∙ walks-on asked (layout .orderBytes - 1 + asked * layout .frameBytes) 0 (omega arith) (omega arith)
 
 -- any capture that was measured
 pub measured-run : (s : List ℕ) (m : Measured s) → examined s .run ≡ measuredRun m
@@ -84,23 +84,49 @@ measured-run s m =
 
 -- ---- and back
 
-bytes-drop : (s : List ℕ) (i : ℕ) → Bytes s → Bytes (drop i s)
+bytes-drop : (s : List ℕ) (i : ℕ) → AllBytes s → AllBytes (drop i s)
 bytes-drop s i B = record { byte = λ k. rw (getD-drop i s k 0) (B .byte (i + k)) }
 
 -- the symbols that stand where frame k should
-framesIn : List ℕ → ℕ → List ℕ
+pub framesIn : List ℕ → ℕ → List ℕ
 framesIn s k = symbolsAt s (framePlace k + layout .symbolsFrom)
+
+-- a frame that is read where frame k should stand
+module _ (s : List ℕ) (B : AllBytes s) (k number from next : ℕ) (read : readAt (drop (framePlace k) s) 0 ≡ Frame number from next) where
+  abbrev rest : List ℕ
+  rest = drop (framePlace k) s
+
+  pub found : (number < 2 ^ 32) × (from ≡ layout .symbolsFrom) × (next ≡ layout .frameBytes) × (length (symbolsAt rest from) ≡ layout .symbols)
+      × (rest ≡ frameRecord number (symbolsAt rest from) ++ drop next rest)
+  found = records .frameFound rest number from next (bytes-drop s (framePlace k) B) read
+
+  pub symbols : symbolsAt rest from ≡ framesIn s k
+  unfolding framesIn
+  symbols = sym (symbols-here s (framePlace k) from) ∙ ap (λ (i : ℕ). symbolsAt s (framePlace k + i)) (found .1)
+
+  moves : framePlace k + next ≡ framePlace (suc k)
+  moves = let e = found .2 in omega arith
+
+  -- it ends within the capture
+  pub ends-inside : framePlace (suc k) ≤ length s
+  ends-inside = let w = frame-found rest 0 read .whole .inside in let d = length-drop (framePlace k) s in omega arith
+
+  pub whole-symbols : length (framesIn s k) ≡ layout .symbols
+  whole-symbols = ap length (sym symbols) ∙ found .3
+
+  -- and its record stands there
+  pub record-there : drop (framePlace k) s ≡ frameRecord number (framesIn s k) ++ drop (framePlace (suc k)) s
+  record-there = found .4 ∙ (λ i. frameRecord number (symbols i) ++ (drop-drop next (framePlace k) s ∙ ap (λ (p : ℕ). drop p s) moves) i)
 
 -- so far the capture is an order and k frames in their turn
 record SoFar (s : List ℕ) (start asked allowed k : ℕ) : Type 0 where
   pub within : k ≤ frameLimit
-  pub inside : framePlace k ≤ length s
   pub whole : (j : ℕ) → j < k → length (framesIn s j) ≡ layout .symbols
   pub locked : (j : ℕ) → j < k → locks (framesIn s j) 0 ≡ true
   pub capture : s ≡ orderRecord start asked allowed ++ (frameRecords (inTurn start) (framesIn s) k ++ drop (framePlace k) s)
 
 -- what holds of the first k and of the next holds of one more
-up-to : {P : ℕ → Type 0} (k : ℕ) → ((j : ℕ) → j < k → P j) → P k → (j : ℕ) → j < suc k → P j
+pub up-to : {P : ℕ → Type 0} (k : ℕ) → ((j : ℕ) → j < k → P j) → P k → (j : ℕ) → j < suc k → P j
 up-to {P} k h p j l = at (decLt j k)
   where
     at : Dec (j < k) → P j
@@ -117,7 +143,7 @@ lost-comes s st l g m = absurd (lost-never st (st .run .asked) l g m)
 stopped-comes : (s : List ℕ) (n i : ℕ) (st : State) → st .run .phase ≡ Stopped → Comes s (walked n s i st)
 stopped-comes s n i st h = lost-comes s (walked n s i st) (walked-lost n s i st (inl h))
 
-module _ (s : List ℕ) (B : Bytes s) (start asked allowed : ℕ) (hs : start < 2 ^ 32) (ha : asked < 2 ^ 32) (hw : allowed < 2 ^ 32) where
+module _ (s : List ℕ) (B : AllBytes s) (start asked allowed : ℕ) (hs : start < 2 ^ 32) (ha : asked < 2 ^ 32) (hw : allowed < 2 ^ 32) where
   -- at the end
   at-last : (k : ℕ) → SoFar s start asked allowed k → length s ≤ framePlace k → measured asked (allAccepted start (framesIn s) k) ≡ true → Measured s
   at-last k F h m =
@@ -142,58 +168,44 @@ module _ (s : List ℕ) (B : Bytes s) (start asked allowed : ℕ) (hs : start < 
 
   -- one frame more
   module _ (k number from next : ℕ) (F : SoFar s start asked allowed k) (read : readAt (drop (framePlace k) s) 0 ≡ Frame number from next) where
-    abbrev rest : List ℕ
-    rest = drop (framePlace k) s
-
-    found : (number < 2 ^ 32) × (from ≡ layout .symbolsFrom) × (next ≡ layout .frameBytes) × (length (symbolsAt rest from) ≡ layout .symbols) × (rest ≡ frameRecord number (symbolsAt rest from) ++ drop next rest)
-    found = records .frameFound rest number from next (bytes-drop s (framePlace k) B) read
-
-    symbols : symbolsAt rest from ≡ framesIn s k
-    unfolding framesIn
-    symbols = sym (symbols-here s (framePlace k) from) ∙ ap (λ (i : ℕ). symbolsAt s (framePlace k + i)) (found .1)
-
-    moves : framePlace k + next ≡ framePlace (suc k)
-    moves = let e = found .2 in omega arith
-
     one-more : number ≡ inTurn start k → locks (framesIn s k) 0 ≡ true → k < frameLimit → SoFar s start asked allowed (suc k)
     unfolding frameRecords
     one-more n l h =
         record {
           within = h;
-          inside = let w = frame-found rest 0 read .whole .inside in let d = length-drop (framePlace k) s in let i = F .inside in omega arith;
-          whole = up-to k (F .whole) (ap length (sym symbols) ∙ found .3);
+          whole = up-to k (F .whole) (whole-symbols s B k number from next read);
           locked = up-to k (F .locked) l;
           capture =
               F .capture
               ∙ ap (λ (x : List ℕ). orderRecord start asked allowed ++ x)
-              (ap (λ (x : List ℕ). frameRecords (inTurn start) (framesIn s) k ++ x) (found .4 ∙ (λ i. frameRecord (n i) (symbols i) ++ (drop-drop next (framePlace k) s ∙ ap (λ (p : ℕ). drop p s) moves) i))
+              (ap (λ (x : List ℕ). frameRecords (inTurn start) (framesIn s) k ++ x) (record-there s B k number from next read ∙ ap (λ (x : ℕ). frameRecord x (framesIn s k) ++ drop (framePlace (suc k)) s) n)
               ∙ sym (append-assoc (frameRecords (inTurn start) (framesIn s) k) (frameRecord (inTurn start k) (framesIn s k)) (drop (framePlace (suc k)) s)));
         }
 
   back : (n k : ℕ) → length s ≤ framePlace k + n → SoFar s start asked allowed k → Comes s (walked n s (framePlace k) (after start asked allowed (framesIn s) k))
-  unfolding walked moved cameAs orderCame frameCame
+  unfolding walked shifted cameAs orderCame frameCame
   back zero k e F = λ g m. at-last k F (omega arith) m
   back (suc n) k e F = go (readAt (drop (framePlace k) s) 0) refl (back n (suc k) (omega arith))
     where
       st : State
       st = after start asked allowed (framesIn s) k
 
-      there : (r : Read) → readAt (drop (framePlace k) s) 0 ≡ r → readAt s (framePlace k) ≡ moved (framePlace k) r
-      there r q = reads-from-here s (framePlace k) ∙ ap (moved (framePlace k)) q
+      there : (r : Read) → readAt (drop (framePlace k) s) 0 ≡ r → readAt s (framePlace k) ≡ shifted (framePlace k) r
+      there r q = reads-from-here s (framePlace k) ∙ ap (shifted (framePlace k)) q
 
-      here : (r : Read) → readAt (drop (framePlace k) s) 0 ≡ r → walked (suc n) s (framePlace k) st ≡ walked n s (nextOf (moved (framePlace k) r) (framePlace k)) (cameAs (moved (framePlace k) r) st s)
-      here r q = walked-one n s (framePlace k) st (moved (framePlace k) r) (there r q)
+      here : (r : Read) → readAt (drop (framePlace k) s) 0 ≡ r → walked (suc n) s (framePlace k) st ≡ walked n s (nextOf (shifted (framePlace k) r) (framePlace k)) (cameAs (shifted (framePlace k) r) st s)
+      here r q = walked-one n s (framePlace k) st (shifted (framePlace k) r) (there r q)
 
       frame : (number from next : ℕ) → readAt (drop (framePlace k) s) 0 ≡ Frame number from next
           → Lost (framed st number (framesIn s k)) ⊎ ((number ≡ inTurn start k) × (locks (framesIn s k) 0 ≡ true) × (k < frameLimit))
           → (SoFar s start asked allowed (suc k) → Comes s (walked n s (framePlace (suc k)) (after start asked allowed (framesIn s) (suc k))))
           → Comes s (walked n s (framePlace k + next) (framed st number (symbolsAt s (framePlace k + from))))
       frame number from next q (inl l) IH =
-          subst (λ (f : List ℕ). Comes s (walked n s (framePlace k + next) (framed st number f))) (sym (symbols-here s (framePlace k) from ∙ symbols k number from next F q))
+          subst (λ (f : List ℕ). Comes s (walked n s (framePlace k + next) (framed st number f))) (sym (symbols-here s (framePlace k) from ∙ symbols s B k number from next q))
           (lost-comes s (walked n s (framePlace k + next) (framed st number (framesIn s k))) (walked-lost n s (framePlace k + next) (framed st number (framesIn s k)) l))
       frame number from next q (inr (t, l, h)) IH =
           subst (Comes s)
-          (sym (λ i. walked n s (moves k number from next F q i) ((ap (framed st number) (symbols-here s (framePlace k) from ∙ symbols k number from next F q) ∙ ap (λ (x : ℕ). framed st x (framesIn s k)) t ∙ framed-next start asked allowed (framesIn s) k h l) i)))
+          (sym (λ i. walked n s (moves s B k number from next q i) ((ap (framed st number) (symbols-here s (framePlace k) from ∙ symbols s B k number from next q) ∙ ap (λ (x : ℕ). framed st x (framesIn s k)) t ∙ framed-next start asked allowed (framesIn s) k h l) i)))
           (IH (one-more k number from next F q t l h))
 
       go : (r : Read) → readAt (drop (framePlace k) s) 0 ≡ r → (SoFar s start asked allowed (suc k) → Comes s (walked n s (framePlace (suc k)) (after start asked allowed (framesIn s) (suc k))))
@@ -203,10 +215,10 @@ module _ (s : List ℕ) (B : Bytes s) (start asked allowed : ℕ) (hs : start < 
       go (Order start′ asked′ allowed′ next) q IH = subst (Comes s) (sym (here (Order start′ asked′ allowed′ next) q)) (stopped-comes s n (framePlace k + next) (cameAs (Order start′ asked′ allowed′ (framePlace k + next)) st s) refl)
       go (Frame number from next) q IH =
           subst (Comes s) (sym (here (Frame number from next) q))
-          (frame number from next q (next-or-lost start asked allowed (framesIn s) k number (framesIn s k) (found k number from next F q .0)) IH)
+          (frame number from next q (next-or-lost start asked allowed (framesIn s) k number (framesIn s k) (found s B k number from next q .0)) IH)
 
 -- from the first record on: an order, or nothing is measured
-from-order : (s : List ℕ) → Bytes s → (n : ℕ) → length s ≤ n → Comes s (walked n s 0 fresh)
+from-order : (s : List ℕ) → AllBytes s → (n : ℕ) → length s ≤ n → Comes s (walked n s 0 fresh)
 unfolding walked goesOn cameAs frameCame frameRecords
 from-order s B zero h = λ g m. absurd (false≢true g)
 from-order s B (suc n) h = go (readAt s 0) refl
@@ -222,12 +234,11 @@ from-order s B (suc n) h = go (readAt s 0) refl
         (back s B start asked allowed (O .0) (O .1) (O .2) n 0 (omega arith)
         (record {
           within = omega arith;
-          inside = let w = order-found s 0 q .whole .inside in omega arith;
           whole = λ j l. absurd (omega arith);
           locked = λ j l. absurd (omega arith);
           capture = O .4 ∙ ap (λ (i : ℕ). orderRecord start asked allowed ++ drop i s) at;
         }))
 
-pub measured-back : (s : List ℕ) → Bytes s → goesOn (examined s .run .phase) ≡ true → measured (examined s .run .asked) (examined s .run .account) ≡ true → Measured s
+pub measured-back : (s : List ℕ) → AllBytes s → goesOn (examined s .run .phase) ≡ true → measured (examined s .run .asked) (examined s .run .account) ≡ true → Measured s
 unfolding examined
 measured-back s B = from-order s B (length s) (omega arith)

@@ -4,7 +4,7 @@ use Rattle.demands.specs.Return.{Return, UndamagedExist, OneFrame}
 use Rattle.demands.specs.Trial.{FlipsCounted, RefusedExactly, TrialsExist}
 use Rattle.demands.specs.OneForAll.{OneForAll, TwoFlips}
 use Rattle.demands.specs.Tallies.{TalliesAlike}
-use Rattle.demands.specs.Verdict.{PassExactly, FailExactly, NotMeasuredExactly, ProgramSays, MeasuredOnce, ReportsExist, NeverPass, AllCounted}
+use Rattle.demands.specs.Verdict.{PassExactly, FailExactly, NotMeasuredExactly, ProgramSays, MeasuredOnce, ExaminationsExist, ArrivedAlways, NeverPass, AllCounted, AlwaysCounted}
 use Rattle.demands.specs.ReedSolomon.{SpansExist, SpansLabel, CarriesExactly, ReedSolomonBound, FourPairs, OtherPlaces, OtherPairs}
 
 -- demands 2 and 3, sentence by sentence
@@ -21,9 +21,11 @@ pub record Demands : Type 0 where
   pub notMeasured : NotMeasuredExactly
   pub program : ProgramSays
   pub oneMeaning : MeasuredOnce
-  pub reports : ReportsExist
+  pub examinations : ExaminationsExist
   pub neverPass : NeverPass
+  pub arrived : ArrivedAlways
   pub allCounted : AllCounted
+  pub alwaysCounted : AlwaysCounted
   -- demand 3, first half, through the account too; and that there are trials, what they are refused by, and what counts as a flip
   pub oneForAll : OneForAll
   pub tallies : TalliesAlike

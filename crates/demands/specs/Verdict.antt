@@ -2,24 +2,24 @@
 -- words keep within the allowance. Over every byte string, for the walk over the whole and for the walk record by record, and carried to the report's text.
 -- Assumes nothing.
 use mathlib.Core.Path.{_≡_}
-use mathlib.Core.Bool.{true, cond}
-use mathlib.Core.Logic.{_⊎_, _↔_}
+use mathlib.Core.Bool.{true, false, cond}
+use mathlib.Core.Logic.{_≢_, _⊎_, _↔_}
 use mathlib.Core.List.{List, [], _∷_, _++_}
 use Prim.Native.Nat.{ℕ, zero, suc, _+_, _*_, _^_, _≤_, _<_}
 use Prim.Native.String.{String}
 use lib.Dec.{eqb}
 use lib.ListN.{length, getD, take}
-use Rattle.bits.specs.Bits.{count}
-use Rattle.bits.proofs.Fields.{Bytes}
+use Rattle.bits.specs.Bits.{count, AllBytes}
 use Rattle.bch.specs.Mend.{mend, flagOf}
 use Rattle.symbols.specs.Frame.{arrived}
 use Rattle.symbols.specs.Pilots.{locks}
-use Rattle.account.specs.Account.{frameLimit}
-use Rattle.capture.specs.Capture.{layout, orderRecord, inTurn, frameRecords}
+use Rattle.account.specs.Account.{frameLimit, total}
+use Rattle.capture.specs.declared.Read.the-variants.{Order, Frame}
+use Rattle.capture.specs.Capture.{layout, readAt, orderRecord, inTurn, frameRecords}
 use Rattle.bench.specs.declared.Run.{Run}
 use Rattle.bench.specs.declared.Phase.the-variants.{Going}
-use Rattle.bench.specs.Run.{State, fresh, stopped, stepped}
-use Rattle.bench.specs.Walk.{examined, pieces, Followed}
+use Rattle.bench.specs.Run.{State, fresh, stepped}
+use Rattle.bench.specs.Walk.{examined, pieces, followed}
 use Rattle.bench.specs.Report.{ascii, text, writtenBytes, written}
 
 -- how many words of a frame have the flag v, by what each decodes to: 0, 1 or 2 bits mended, or 3, no code word lies within two bits
@@ -74,8 +74,8 @@ pub record Stepwise (s : List ℕ) (r : Run) : Type 0 where
   pub call : (k : ℕ) → k < length (pieces s) → states (suc k) ≡ stepped (states k) (getD (pieces s) k [])
   pub last : r ≡ states (length (pieces s)) .run
 
--- a capture and its report, as the calls allow: `examine_capture` or a walk record by record, and `report` into a buffer that holds it
-pub record Reported (s report : List ℕ) : Type 0 where
+-- a capture examined and its report, as the calls allow: `examine_capture` or a walk record by record, and `report` into a buffer that holds it
+pub record Examination (s report : List ℕ) : Type 0 where
   pub run : Run
   pub walk : (run ≡ examined s .run) ⊎ Stepwise s run
   pub buffer : List ℕ
@@ -86,10 +86,10 @@ pub record Reported (s report : List ℕ) : Type 0 where
   pub left : out ≡ written run buffer
   pub printed : report ≡ take bytes out
 
--- the lines of a text, each ended by 0A; the first of them has begun
+-- the lines of a text, each ended by 0A, where the bytes `head` of the first have gone before
 unfoldable pub linesFrom : List ℕ → List ℕ → List (List ℕ)
-linesFrom begun [] = []
-linesFrom begun (c ∷ rest) = cond (eqb c 10) (begun ∷ linesFrom [] rest) (linesFrom (begun ++ (c ∷ [])) rest)
+linesFrom head [] = []
+linesFrom head (c ∷ rest) = cond (eqb c 10) (head ∷ linesFrom [] rest) (linesFrom (head ++ (c ∷ [])) rest)
 
 -- a line stands in a text
 pub record Line (line : String) (t : List ℕ) : Type 0 where
@@ -99,22 +99,20 @@ pub record Line (line : String) (t : List ℕ) : Type 0 where
 
 -- PASS exactly if what was ordered was measured and flagged words are at most those allowed
 abbrev pub PassExactly : Type 0
-PassExactly = (s report : List ℕ) → Bytes s → Reported s report → Line "verdict PASS" report ↔ ((m : Measured s) × (flaggedWords m ≤ m .allowed))
+PassExactly = (s report : List ℕ) → AllBytes s → Examination s report → Line "verdict PASS" report ↔ ((m : Measured s) × (flaggedWords m ≤ m .allowed))
 
 -- FAIL exactly if it was measured and there are more
 abbrev pub FailExactly : Type 0
-FailExactly = (s report : List ℕ) → Bytes s → Reported s report → Line "verdict FAIL" report ↔ ((m : Measured s) × (m .allowed < flaggedWords m))
+FailExactly = (s report : List ℕ) → AllBytes s → Examination s report → Line "verdict FAIL" report ↔ ((m : Measured s) × (m .allowed < flaggedWords m))
 
 -- everything else is NOT MEASURED
 abbrev pub NotMeasuredExactly : Type 0
-NotMeasuredExactly = (s report : List ℕ) → Bytes s → Reported s report → Line "verdict NOT MEASURED" report ↔ (Measured s → ⊥)
+NotMeasuredExactly = (s report : List ℕ) → AllBytes s → Examination s report → Line "verdict NOT MEASURED" report ↔ (Measured s → ⊥)
 
--- the program, over the bytes that it has read: it prints PASS only if they were measured, and where a read failed it prints NOT MEASURED
+-- The program: the run that it comes to over the bytes s is examined as above; and where a read failed, whatever went before it, the report says NOT MEASURED. That
+-- s is what the input brought is read off the program and no theorem (docs/TRUST.md)
 abbrev pub ProgramSays : Type 0
-ProgramSays =
-    (s : List ℕ) (r : Run) → Bytes s → Followed s r
-    → (Line "verdict PASS" (text r) → ((m : Measured s) × (flaggedWords m ≤ m .allowed)))
-    × (r ≡ stopped (examined s .run) → Line "verdict NOT MEASURED" (text r))
+ProgramSays = (s : List ℕ) → Examination s (text (followed s false)) × Line "verdict NOT MEASURED" (text (followed s true))
 
 -- no capture has two meanings: what was ordered, and the symbols, are those that the bytes say
 abbrev pub MeasuredOnce : Type 0
@@ -122,24 +120,55 @@ MeasuredOnce =
     (s : List ℕ) (m n : Measured s)
     → (m .start ≡ n .start) × (m .asked ≡ n .asked) × (m .allowed ≡ n .allowed) × ((k : ℕ) → k < m .asked → m .frames k ≡ n .frames k)
 
--- every capture has a report, by either walk
-abbrev pub ReportsExist : Type 0
-ReportsExist = (s : List ℕ) → (r : Run) × (r ≡ examined s .run) × Stepwise s r × ((buffer : List ℕ) → length (text r) ≤ length buffer → (report : List ℕ) × Reported s report)
+-- every capture can be examined, by either walk and into any buffer that holds the report
+abbrev pub ExaminationsExist : Type 0
+ExaminationsExist =
+    (s : List ℕ)
+    → Stepwise s (examined s .run)
+    × ((buffer : List ℕ) → length (text (examined s .run)) ≤ length buffer → (report : List ℕ) × (e : Examination s report) × (e .buffer ≡ buffer))
 
--- For the examiner: a capture with a frame missing, doubled, out of order, cut or unlocked is never PASS. An order, then n frame records with whatever numbers and
--- symbols, then fewer bytes than another frame has: PASS means that n frames were asked for, each number came in its turn, each frame locked, and nothing more came
-abbrev pub NeverPass : Type 0
-NeverPass =
-    (start asked allowed n : ℕ) (numbers : ℕ → ℕ) (frames : ℕ → List ℕ) (rest report : List ℕ)
-    → (start < 2 ^ 32) × (asked < 2 ^ 32) × (allowed < 2 ^ 32) → ((k : ℕ) → k < n → (numbers k < 2 ^ 32) × (length (frames k) ≡ layout .symbols)) → length rest < layout .frameBytes
-    → Bytes (orderRecord start asked allowed ++ (frameRecords numbers frames n ++ rest)) → Reported (orderRecord start asked allowed ++ (frameRecords numbers frames n ++ rest)) report
-    → Line "verdict PASS" report
-    → (n ≡ asked) × ((k : ℕ) → k < n → numbers k ≡ inTurn start k) × ((k : ℕ) → k < n → locks (frames k) 0 ≡ true) × (rest ≡ [])
+-- a capture as it may come: an order, then n frame records with whatever numbers and symbols, then something that is no frame
+pub record Arrived (s : List ℕ) : Type 0 where
+  pub start : ℕ
+  pub asked : ℕ
+  pub allowed : ℕ
+  pub n : ℕ
+  pub numbers : ℕ → ℕ
+  pub frames : ℕ → List ℕ
+  pub rest : List ℕ
+  pub small : (start < 2 ^ 32) × (asked < 2 ^ 32) × (allowed < 2 ^ 32)
+  pub whole : (k : ℕ) → k < n → (numbers k < 2 ^ 32) × (length (frames k) ≡ layout .symbols)
+  pub noFrame : (number from next : ℕ) → readAt rest 0 ≢ Frame number from next
+  pub capture : s ≡ orderRecord start asked allowed ++ (frameRecords numbers frames n ++ rest)
 
--- For the examiner: PASS means that every ordered frame's 384 words were counted. The report shows as many frames accepted as asked for, none missing, and the words
--- with each flag over all frames, which are 384 times the frames in all
+-- every capture that begins with an order is one of these
+abbrev pub ArrivedAlways : Type 0
+ArrivedAlways = (s : List ℕ) (start asked allowed next : ℕ) → AllBytes s → readAt s 0 ≡ Order start asked allowed next → Arrived s
+
+-- For the examiner: a capture with a frame missing, doubled, out of order, cut or unlocked is never PASS
+pub record NeverPass : Type 0 where
+  -- the number of a frame that was ordered is not among those that came
+  pub missing : (s report : List ℕ) → AllBytes s → Examination s report → (a : Arrived s)
+      → (i : ℕ) → i < a .asked → ((k : ℕ) → k < a .n → a .numbers k ≢ inTurn (a .start) i) → Line "verdict PASS" report → ⊥
+  -- two frames came with one number
+  pub doubled : (s report : List ℕ) → AllBytes s → Examination s report → (a : Arrived s)
+      → (j k : ℕ) → j < k → k < a .n → a .numbers j ≡ a .numbers k → Line "verdict PASS" report → ⊥
+  -- a frame came with another number than the next
+  pub outOfOrder : (s report : List ℕ) → AllBytes s → Examination s report → (a : Arrived s)
+      → (k : ℕ) → k < a .n → a .numbers k ≢ inTurn (a .start) k → Line "verdict PASS" report → ⊥
+  -- behind the frames stands something more: a frame cut short, a second order, any bytes
+  pub cut : (s report : List ℕ) → AllBytes s → Examination s report → (a : Arrived s) → a .rest ≢ [] → Line "verdict PASS" report → ⊥
+  -- a frame does not lock
+  pub unlocked : (s report : List ℕ) → AllBytes s → Examination s report → (a : Arrived s)
+      → (k : ℕ) → k < a .n → locks (a .frames k) 0 ≡ false → Line "verdict PASS" report → ⊥
+
+-- For the examiner: PASS means that every ordered frame's 384 words were counted. The report is that of as many frames accepted as asked for, none missing, and the
+-- words with each flag over all of them
 abbrev pub AllCounted : Type 0
 AllCounted =
-    (s report : List ℕ) → Bytes s → Reported s report → Line "verdict PASS" report
-    → (m : Measured s) × (report ≡ text (measuredRun m))
-    × (wordsIn 0 (m .frames) (m .asked) + wordsIn 1 (m .frames) (m .asked) + wordsIn 2 (m .frames) (m .asked) + wordsIn 3 (m .frames) (m .asked) ≡ 384 * m .asked)
+    (s report : List ℕ) → AllBytes s → Examination s report → Line "verdict PASS" report
+    → (m : Measured s) × (examined s .run ≡ measuredRun m) × (report ≡ text (measuredRun m)) × (total (measuredRun m .account .words) ≡ 384 * m .asked)
+
+-- and whatever the verdict, the report shows 384 words for each frame accepted
+abbrev pub AlwaysCounted : Type 0
+AlwaysCounted = (s : List ℕ) → total (examined s .run .account .words) ≡ 384 * examined s .run .account .accepted

@@ -2,39 +2,41 @@
 -- Assumes nothing.
 use mathlib.Core.Path.{_≡_, refl, sym, ap, _∙_, subst}
 use mathlib.Core.Bool.{Bool, true, false, not, false≢true}
-use mathlib.Core.Logic.{_≢_, inl, inr}
+use mathlib.Core.Logic.{_≢_}
 use mathlib.Core.List.{List, [], _++_}
 use Prim.Native.Nat.{ℕ, _+_, _-_, _≤_, _<_}
 use native.Mathlib.Decide.{decLt}
 use native.Mathlib.Omega.{arith}
 use lib.ListN.{length, getD, take, drop, replicate, List·getD-append, List·getD-eq-default}
 use lib.Seq.{length-take-le, getD-append-add}
-use Rattle.bits.proofs.Fields.{Bytes}
+use Rattle.bits.specs.Bits.{AllBytes}
 use Rattle.capture.specs.Capture.{wanted}
 use Rattle.bench.specs.declared.Run.{Run}
 use Rattle.bench.specs.declared.Phase.{Phase}
 use Rattle.bench.specs.declared.Phase.the-variants.{Stopped}
 use Rattle.bench.specs.Run.{State, begun, stopped, isStopped, stepped}
-use Rattle.bench.specs.Walk.{examined, Followed}
+use Rattle.bench.specs.Walk.{examined, followed}
+use Rattle.examine.specs.declared.Came.{Came}
 use Rattle.bench.proofs.Walk.{end, Onward, onward-starts, onward-ends, onward-last, onward-next, short-stops}
 use Rattle.bench.proofs.Left.{leftOf, step-less}
 
 -- the bytes read so far, and that the state is what they come to; while the run goes on, whatever may follow
 pub record Reading (st : State) (going : Bool) : Type 0 where
   pub read : List ℕ
-  pub bytes : Bytes read
+  pub bytes : AllBytes read
   pub came : st ≡ examined read
   pub onward : going ≡ true → Onward read st
   pub stops : going ≡ not (isStopped (st .run .phase))
 
 -- what may be answered
-pub answers : (st : State) (going : Bool) → Reading st going → (s : List ℕ) × Bytes s × Followed s (st .run)
-answers st going R = (R .read, R .bytes, inl (ap (λ (x : State). x .run) (R .came)))
+module _ (st : State) (going : Bool) (R : Reading st going) (r : Came) where
+  pub answers : r ≡ record { run = st .run; failed = false } → (s : List ℕ) × AllBytes s × (r .run ≡ followed s (r .failed))
+  answers e = rw e (R .read, R .bytes, ap (λ (x : State). x .run) (R .came))
 
-pub answers-failed : (st : State) (going : Bool) (r : Run) → Reading st going → r ≡ stopped (st .run) → (s : List ℕ) × Bytes s × Followed s r
-answers-failed st going r R e = (R .read, R .bytes, inr (e ∙ ap (λ (x : State). stopped (x .run)) (R .came)))
+  pub answers-failed : r ≡ record { run = stopped (st .run); failed = true } → (s : List ℕ) × AllBytes s × (r .run ≡ followed s (r .failed))
+  answers-failed e = rw e (R .read, R .bytes, ap (λ (x : State). stopped (x .run)) (R .came))
 
-no-bytes : Bytes []
+no-bytes : AllBytes []
 no-bytes = record { byte = λ m. let e : _≡_ {A = ℕ} (getD [] m 0) 0 = List·getD-eq-default [] 0 {n = m} (omega arith) in omega arith }
 
 pub reading-starts : (r : Run) → r ≡ begun → Reading (record { run = r; store = replicate 2880 0 }) true
@@ -43,7 +45,7 @@ reading-starts r e =
     let O = onward-starts r e in
     record { read = []; bytes = no-bytes; came = onward-ends [] (record { run = r; store = replicate 2880 0 }) O; onward = λ z. O; stops = rw e refl }
 
-bytes-append : (s t : List ℕ) → Bytes s → Bytes t → Bytes (s ++ t)
+bytes-append : (s t : List ℕ) → AllBytes s → AllBytes t → AllBytes (s ++ t)
 bytes-append s t B C = record { byte = λ m. at m (decLt m (length s)) }
   where
     at : (m : ℕ) → Dec (m < length s) → getD (s ++ t) m 0 < 256
@@ -75,7 +77,7 @@ module _ (st : State) (going : Bool) (R : Reading st going) (on : going ≡ true
   piece-cut : length piece ≤ wanted piece
   piece-cut = rw (piece-length, same) cut
 
-  module _ (new : State) (B : Bytes piece) (step : new ≡ stepped st piece) where
+  module _ (new : State) (B : AllBytes piece) (step : new ≡ stepped st piece) where
     pub reading-goes : (stop : Bool) → stop ≡ isStopped (new .run .phase) → Reading new (not stop)
     reading-goes stop e =
         record {

@@ -1,13 +1,15 @@
 // The program: a capture on standard input, its report on standard output. It holds one record at a time.
 ghost use mathlib.Core.Path.{_≡_};
-ghost use mathlib.Core.Bool.{false};
+ghost use mathlib.Core.Bool.{true, false};
 ghost use mathlib.Core.List.{List};
 ghost use Prim.Native.Nat.{ℕ, _+_, _<_, _≤_};
 ghost use lib.ListN.{length, take};
-ghost use Rattle.bits.proofs.Fields.{Bytes};
+ghost use Rattle.bits.specs.Bits.{AllBytes};
 ghost use Rattle.capture.specs.Capture.{layout, wanted};
-ghost use Rattle.bench.specs.Run.{stepped};
-ghost use Rattle.bench.specs.Walk.{Followed};
+ghost use Rattle.bench.specs.Run.{stopped, stepped};
+ghost use Rattle.bench.specs.Walk.{followed};
+ghost use Rattle.bench.specs.Report.{text};
+ghost use Rattle.bench.specs.Writing.{longest};
 
 // Up to which place a buffer was filled, and whether a read failed: that is no end of the input.
 struct Filled {
@@ -74,14 +76,39 @@ fn next_piece(fd: i32, buffer: &mut [u8]) -> Filled
 
 // A step over a piece, which is of bytes.
 fn step(run: bench::Run, store: &mut [u8; 2880], piece: &[u8]) -> bench::Run
-    ensures { λ r. ⌜ (record { run = r; store = now (store .exit) } ≡ stepped (record { run = run; store = now (store .entry) }) (now (piece .entry))) × Bytes (now (piece .entry)) ⌝ }
+    ensures { λ r. ⌜ (record { run = r; store = now (store .exit) } ≡ stepped (record { run = run; store = now (store .entry) }) (now (piece .entry))) × AllBytes (now (piece .entry)) ⌝ }
 {
     bench::step(run, store, piece)
 }
 
-// The run of what stands on the input, record by record, to its end or to what stops it; a read that fails stops it too.
-fn follow(fd: i32) -> bench::Run
-    ensures { λ r. ⌜ ((s : List ℕ) × Bytes s × Followed s r) ⌝ }
+// What an input came to: a run, and whether a read failed.
+struct Came {
+    run: bench::Run,
+    failed: bool,
+}
+
+// A run to the end of the input, or to what stopped it.
+fn to_the_end(run: bench::Run) -> Came
+    ensures { λ r. ⌜ r ≡ record { run = run; failed = false } ⌝ }
+{
+    Came { run, failed: false }
+}
+
+// A run that breaks off where a read failed: it is stopped.
+fn broken_off(run: bench::Run) -> Came
+    ensures { λ r. ⌜ r ≡ record { run = stopped run; failed = true } ⌝ }
+{
+    let halt = bench::stopped(run);
+    Came {
+        run: halt,
+        failed: true,
+    }
+}
+
+// The input followed record by record, to its end, to what stops the run, or to a read that fails. Over some bytes the answer is what following them comes to; that
+// they are the input's is what `fill` and `next_piece` do and no contract can say.
+fn follow(fd: i32) -> Came
+    ensures { λ r. ⌜ ((s : List ℕ) × AllBytes s × (r .run ≡ followed s (r .failed))) ⌝ }
 {
     let mut store = [0u8; 2880];
     let mut buffer = [0u8; capture::FRAME_BYTES];
@@ -90,26 +117,34 @@ fn follow(fd: i32) -> bench::Run
     while going {
         let piece = next_piece(fd, &mut buffer);
         if piece.failed {
-            return bench::stopped(run);
+            return broken_off(run);
         }
         let n = piece.end;
         if n == 0 {
-            return run;
+            return to_the_end(run);
         }
         run = step(run, &mut store, &buffer[0..n]);
         going = !bench::is_stopped(run);
     }
-    run
+    to_the_end(run)
 }
 
 // The report of a run, in a buffer that holds every one.
+fn render(run: bench::Run, out: &mut [u8]) -> usize
+    requires { ⌜ longest ≤ length (now out) ⌝ }
+    ensures { λ r. ⌜ (r ≤ length (now (out .exit))) × (take r (now (out .exit)) ≡ text run) ⌝ }
+{
+    bench::report(run, out)
+}
+
 fn print(run: bench::Run) -> bool {
     let mut out = [0u8; bench::LONGEST];
-    let n = bench::report(run, &mut out);
+    let n = render(run, &mut out);
     io::write_all(libc::STDOUT_FILENO, &out[0..n])
 }
 
 fn main() {
-    let run = follow(libc::STDIN_FILENO);
+    let came = follow(libc::STDIN_FILENO);
+    let run = came.run;
     print(run);
 }

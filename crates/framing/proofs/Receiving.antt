@@ -6,7 +6,8 @@ use mathlib.Core.List.{List}
 use Prim.Native.Nat.{ℕ, suc}
 use lib.ListN.{length}
 use Rattle.bits.proofs.Tabulate.{length-tabulate}
-use Rattle.bits.proofs.Fields.{Bytes, length-bytes}
+use Rattle.bits.specs.Bits.{AllBytes}
+use Rattle.bits.proofs.Fields.{length-bytes}
 use Rattle.lanes.specs.Permutation.{Places, permuted, lanesOf, frameOf}
 use Rattle.lanes.specs.Interleaver.{receiver, woven, storeNext, unwovenFrame, unwovenStore}
 use Rattle.lanes.proofs.Bytewise.{frame-bytes, permuted-lt, woven-lt, lanes-lt}
@@ -26,7 +27,7 @@ pub lanes-length : (ex : Places) (f s : List ℕ) → length (receivedLanes ex f
 unfolding unwovenFrame frameOf
 lanes-length ex f s = length-bytes _ _
 
-pub lanes-bytes : (ex : Places) (f s : List ℕ) → Bytes (receivedLanes ex f s)
+pub lanes-bytes : (ex : Places) (f s : List ℕ) → AllBytes (receivedLanes ex f s)
 unfolding unwovenFrame
 lanes-bytes ex f s =
     let x = woven receiver s (lanesOf (broughtLanes f)) in

@@ -13,11 +13,11 @@ use lib.ListN.{getD, set, length, take, drop, List·getD-append}
 use lib.Seq.{getD-append-add}
 use lib.Bits.{bitAnd, bitXor, and-le-l, xor-lt, xor-shr, xor-mod}
 use borrow.Author.Tests.{lt-ltb, le-ltb}
-use Rattle.bits.specs.Bits.{tabulate, number, bitOf, bitAt, bytes}
+use Rattle.bits.specs.Bits.{tabulate, number, bitOf, bitAt, bytes, AllBytes}
 use Rattle.bits.proofs.Tabulate.{tabulate-cong, getD-tabulate}
 use Rattle.bits.proofs.Filling.{Filling, filling-turn, filling-at, filling-put}
 use Rattle.bits.proofs.Value.{value-cong, bit-lt, bit-and, number-bits}
-use Rattle.bits.proofs.Fields.{Bytes, bitAt-lt, bitAt-byte, bytes-bit, bytes-cong, bytes-bytes}
+use Rattle.bits.proofs.Fields.{bitAt-lt, bitAt-byte, bytes-bit, bytes-cong, bytes-bytes}
 use Rattle.lanes.specs.Permutation.{Lanes, Places, named, partner, permuted, lanesOf, frameOf}
 use Rattle.lanes.specs.Interleaver.{Rows, stored, woven, rowAt, storeBit, storeNext}
 use Rattle.lanes.specs.Blocks.{mergedByte, IsMasks, blockStart, blockByte, outFrom, keptFrom, source, IsSource}
@@ -98,7 +98,7 @@ abbrev pub permutedByte : ℕ → List ℕ → ℕ → ℕ
 permutedByte e x i = number 8 (λ k. permuted (named e) (lanesOf x) ((8 * i + k) / 1320) ((8 * i + k) % 1320))
 
 -- it is the byte that stands there, merged with its partner's
-permuted-byte : (t : List ℕ) → IsMasks t → (e i : ℕ) (x : List ℕ) → Bytes x → e < 16 → i < 5280
+permuted-byte : (t : List ℕ) → IsMasks t → (e i : ℕ) (x : List ℕ) → AllBytes x → e < 16 → i < 5280
     → mergedByte (getD x i 0) (getD x ((i + 2640) % 5280) 0) (getD t (5 * e + i % 5) 0) ≡ permutedByte e x i
 unfolding permuted
 permuted-byte t T e i x X he hi =
@@ -159,12 +159,12 @@ module _ (x s : List ℕ) (long : length x ≡ 5280) where
       (ap (λ (v : ℕ). bitOf 8 v k) (ap (λ (j : ℕ). getD (x ++ s) j 0) f ∙ getD-append-add x s i 0) ∙ sym (bitAt-byte s i k hk) ∙ ap (bitAt s) e)
 
 -- a byte of a block is a byte
-block-lt : (z : List ℕ) → Bytes z → (p b c : ℕ) → blockByte z p b c < 256
+block-lt : (z : List ℕ) → AllBytes z → (p b c : ℕ) → blockByte z p b c < 256
 unfolding blockByte
 block-lt z Z p b c = Z .byte (blockStart p b + c)
 
 -- what the code stores for the table t of a stage
-module _ (R : Rows) (t : List ℕ) (T : IsSource R t) (x s : List ℕ) (long : length x ≡ 5280) (Z : Bytes (x ++ s)) (y : Lanes)
+module _ (R : Rows) (t : List ℕ) (T : IsSource R t) (x s : List ℕ) (long : length x ≡ 5280) (Z : AllBytes (x ++ s)) (y : Lanes)
     (same : (p i : ℕ) → p < 32 → i < 1320 → lanesOf x p i ≡ y p i) where
   -- the 33 blocks that come out
   out-byte : (p b c : ℕ) → p < 32 → b < 33 → c < 5 → blockByte (x ++ s) p (source R b) c ≡ number 8 (λ k. woven R s y p (40 * b + (8 * c + k)))
@@ -268,7 +268,7 @@ module _ (y : Lanes) (bit : (p i : ℕ) → y p i < 2) where
       let f : (1320 * p + i) % 1320 ≡ i = omega arith in
       bytes-bit 5280 (λ j. y (j / 1320) (j % 1320)) (λ j h. bit (j / 1320) (j % 1320)) (1320 * p + i) (omega arith) ∙ ap₂ y e f
 
-  pub frame-bytes : Bytes (frameOf y)
+  pub frame-bytes : AllBytes (frameOf y)
   unfolding frameOf
   frame-bytes = bytes-bytes 5280 (λ j. y (j / 1320) (j % 1320)) (λ j h. bit (j / 1320) (j % 1320))
 
@@ -335,7 +335,7 @@ named-16 x s h = ap (λ (b : ℕ). eqb b 1) (go s h)
 -- ---- the loops that store blocks
 
 -- byte k of sixteen blocks of the permuted frame
-pub permuted-at : (t : List ℕ) → IsMasks t → (e b k : ℕ) (row x : List ℕ) → Bytes x → e < 16 → b < 66 → k < 80
+pub permuted-at : (t : List ℕ) → IsMasks t → (e b k : ℕ) (row x : List ℕ) → AllBytes x → e < 16 → b < 66 → k < 80
     → row ≡ tabulate 80 (λ i. getD t (5 * e + i % 5) 0)
     → mergedByte (getD x (80 * b + k) 0) (getD x ((80 * b + 2640) % 5280 + k) 0) (getD row k 0) ≡ permutedByte e x (80 * b + k)
 permuted-at t T e b k row x X he hb hk r =

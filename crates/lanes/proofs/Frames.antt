@@ -5,9 +5,8 @@ use mathlib.Core.List.{List, [], _++_, append-nil}
 use Prim.Native.Nat.{ℕ, _+_, _/_, _%_, _<_}
 use lib.ListN.{getD, length, take, drop, replicate}
 use lib.Seq.{take-at, drop-at}
-use Rattle.bits.specs.Bits.{tabulate, copied}
+use Rattle.bits.specs.Bits.{tabulate, copied, AllBytes}
 use Rattle.bits.proofs.Filling.{copied-all}
-use Rattle.bits.proofs.Fields.{Bytes}
 use Rattle.lanes.specs.Permutation.{Lanes, named, permuted, lanesOf, frameOf}
 use Rattle.lanes.specs.Interleaver.{sender, receiver, woven, wovenFrame, wovenStore, unwovenFrame, unwovenStore}
 use Rattle.lanes.specs.Blocks.{blockByte}
@@ -32,12 +31,12 @@ abbrev pub kept : (t z : List ℕ) → List ℕ
 kept t z = tabulate 2880 (λ i. blockByte z (i / 90) (getD t (33 + i % 90 / 5) 0) (i % 5))
 
 module _ (e : ℕ) (a s : List ℕ) where
-  pub weave-law : {x z out next : List ℕ} → x ≡ frameOf (permuted (named (e % 16)) (lanesOf a)) → z ≡ x ++ s → length x ≡ 5280 → Bytes z
+  pub weave-law : {x z out next : List ℕ} → x ≡ frameOf (permuted (named (e % 16)) (lanesOf a)) → z ≡ x ++ s → length x ≡ 5280 → AllBytes z
       → out ≡ moved sources z → next ≡ kept sources z → (out ≡ wovenFrame (named e) a s) × (next ≡ wovenStore (named e) a s)
   unfolding wovenFrame wovenStore
   weave-law {x} {z} ex ez long Z eo en = (
-    eo ∙ ap (moved sources) ez ∙ out-is sender sources sends x s long (subst Bytes ez Z) y same,
-    en ∙ ap (kept sources) ez ∙ kept-is sender sources sends x s long (subst Bytes ez Z) y same,
+    eo ∙ ap (moved sources) ez ∙ out-is sender sources sends x s long (subst AllBytes ez Z) y same,
+    en ∙ ap (kept sources) ez ∙ kept-is sender sources sends x s long (subst AllBytes ez Z) y same,
   )
     where
       y : Lanes
@@ -48,12 +47,12 @@ module _ (e : ℕ) (a s : List ℕ) where
           ap (λ (l : List ℕ). lanesOf l p i) (ex ∙ permuted-cong (named (e % 16)) (named e) (lanesOf a) (lanesOf a) (named-16 e) (λ q j k l. refl))
           ∙ frame-bit y (permuted-lt (named e) (lanesOf a) (lanes-lt a)) p i hp hi
 
-  pub unweave-law : {x z y out next : List ℕ} → x ≡ a → z ≡ x ++ s → length a ≡ 5280 → Bytes z → y ≡ moved returns z → next ≡ kept returns z
+  pub unweave-law : {x z y out next : List ℕ} → x ≡ a → z ≡ x ++ s → length a ≡ 5280 → AllBytes z → y ≡ moved returns z → next ≡ kept returns z
       → out ≡ frameOf (permuted (named (e % 16)) (lanesOf y)) → (out ≡ unwovenFrame (named e) a s) × (next ≡ unwovenStore a s)
   unfolding unwovenFrame unwovenStore
   unweave-law {x} {z} {y} ex ez long Z ey en eo = (
     eo ∙ permuted-cong (named (e % 16)) (named e) (lanesOf y) w (named-16 e) same,
-    en ∙ ap (kept returns) is ∙ kept-is receiver returns brings a s long (subst Bytes is Z) (lanesOf a) (λ p i hp hi. refl),
+    en ∙ ap (kept returns) is ∙ kept-is receiver returns brings a s long (subst AllBytes is Z) (lanesOf a) (λ p i hp hi. refl),
   )
     where
       w : Lanes
@@ -65,5 +64,5 @@ module _ (e : ℕ) (a s : List ℕ) where
       same : (p i : ℕ) → p < 32 → i < 1320 → lanesOf y p i ≡ w p i
       same p i hp hi =
           ap (λ (l : List ℕ). lanesOf l p i)
-          (ey ∙ ap (moved returns) is ∙ out-is receiver returns brings a s long (subst Bytes is Z) (lanesOf a) (λ p i hp hi. refl))
+          (ey ∙ ap (moved returns) is ∙ out-is receiver returns brings a s long (subst AllBytes is Z) (lanesOf a) (λ p i hp hi. refl))
           ∙ frame-bit w (woven-lt receiver s (lanesOf a) (lanes-lt a)) p i hp hi

@@ -11,11 +11,11 @@ use lib.Pow.{pow-add, pow-pos, shr-lt, shr-shr, shl-shr, shl-lt, split, high, lo
 use lib.Bits.{bitOr, or-shifted}
 use lib.Dec.{eqb}
 use lib.ListN.{length, getD}
-use Rattle.bits.specs.Bits.{bitOf, bitAt, fieldAt, bytes}
+use Rattle.bits.specs.Bits.{bitOf, bitAt, fieldAt, bytes, AllBytes}
 use Rattle.bits.specs.Words.{wordOf, wordAt, halfOf, rowOf}
 use Rattle.bits.proofs.Tabulate.{tabulate-cong}
 use Rattle.bits.proofs.Value.{bit-lt, number-bits}
-use Rattle.bits.proofs.Fields.{Bytes, field-is, field-lt, field-bit, field-join, field-top, field-low, length-bytes, bytes-cong, is-bytes, bytes-bit, bytes-bytes}
+use Rattle.bits.proofs.Fields.{field-is, field-lt, field-bit, field-join, field-top, field-low, length-bytes, bytes-cong, is-bytes, bytes-bit, bytes-bytes}
 use Rattle.bits.proofs.Words.{word-lt, row-at}
 use Rattle.lanes.specs.Words.{informationAt, laneWords, wordLanes}
 
@@ -144,7 +144,7 @@ module _ (s : List ℕ) where
   pub lanes-length : length (wordLanes s) ≡ 5280
   lanes-length = rw lanes-are (length-bytes 5280 laneBit)
 
-  pub lanes-bytes : Bytes (wordLanes s)
+  pub lanes-bytes : AllBytes (wordLanes s)
   lanes-bytes = rw lanes-are (bytes-bytes 5280 laneBit lane-bit)
 
   -- bit q of the word that is j-th in the order of the lanes
@@ -215,7 +215,7 @@ lanes-information s t e =
     bit-information (wordAt s i) q (omega arith) ∙ ap (λ (v : ℕ). bitOf 110 v q) (e i (omega arith)) ∙ sym (bit-information (wordAt t i) q (omega arith)))
 
 -- the lanes of the words of a frame's lanes are these lanes
-pub lanes-words : (a : List ℕ) → Bytes a → length a ≡ 5280 → wordLanes (laneWords a) ≡ a
+pub lanes-words : (a : List ℕ) → AllBytes a → length a ≡ 5280 → wordLanes (laneWords a) ≡ a
 unfolding wordLanes
 lanes-words a B e = sym (is-bytes 5280 _ a B e (word-bit a))
 

@@ -10,9 +10,9 @@ use native.Mathlib.Omega.{arith}
 use lib.Pow.{shr-shr, mod-pow-add}
 use lib.ListN.{length, getD}
 use lib.Seq.{ext-getD}
-use Rattle.bits.specs.Bits.{value, fieldAt}
+use Rattle.bits.specs.Bits.{value, fieldAt, AllBytes}
 use Rattle.bits.specs.Words.{wordOf}
-use Rattle.bits.proofs.Fields.{Bytes, field-join, field-top, field-low, byte-field}
+use Rattle.bits.proofs.Fields.{field-join, field-top, field-low, byte-field}
 use Rattle.bits.proofs.Joins.{Put}
 use Rattle.lanes.specs.Words.{wordLanes}
 use Rattle.lanes.proofs.LaneWords.{field-middle, word-middle, word-top, word-last, lanes-length}
@@ -50,7 +50,7 @@ unfolding fieldAt value
 laying-start t out e = record { long = e; small = omega arith; same = λ m h. absurd (not-suc-le-zero h); over = refl }
 
 -- eight bytes of t stored, where those before are written
-put-same : (t d l : List ℕ) (o n : ℕ) {v : ℕ} → Bytes t → Put 8 v o d l → v ≡ fieldAt t (8 * o) 64 → ((m : ℕ) → m < n → getD d m 0 ≡ getD t m 0) → o ≤ n
+put-same : (t d l : List ℕ) (o n : ℕ) {v : ℕ} → AllBytes t → Put 8 v o d l → v ≡ fieldAt t (8 * o) 64 → ((m : ℕ) → m < n → getD d m 0 ≡ getD t m 0) → o ≤ n
     → (m : ℕ) → m < o + 8 → getD l m 0 ≡ getD t m 0
 put-same t d l o n {v} B P e same h m b = at (decLt m o)
   where
@@ -61,7 +61,7 @@ put-same t d l o n {v} B P e same h m b = at (decLt m o)
         let k = 56 - 8 * q in
         let all : 64 ≡ 8 * q + 8 + k = omega arith in
         let here : 8 * o + 8 * q ≡ 8 * m = omega arith in
-        let byte : (s : List ℕ) → Bytes s → fieldAt s (8 * o) 64 / 2 ^ k % 2 ^ 8 ≡ getD s m 0 =
+        let byte : (s : List ℕ) → AllBytes s → fieldAt s (8 * o) 64 / 2 ^ k % 2 ^ 8 ≡ getD s m 0 =
         (λ s B. ap (λ (n : ℕ). fieldAt s (8 * o) n / 2 ^ k % 2 ^ 8) all ∙ field-middle s (8 * o) (8 * q) 8 k ∙ ap (λ (i : ℕ). fieldAt s i 8) here ∙ byte-field s B m) in
         sym (byte l (P .bytes)) ∙ ap (λ (x : ℕ). x / 2 ^ k % 2 ^ 8) (P .is ∙ e) ∙ byte t B
 
@@ -99,7 +99,7 @@ module _ (t out mid l : List ℕ) (past hi lo b c x y z v : ℕ) (small : lo < 2
       let from : b + (46 - c % 8) ≡ 8 * (c / 8 - 8) = omega arith in
       ev ∙ middle-bits t b hi lo small here (c % 8) (omega arith) ∙ ap (λ (i : ℕ). fieldAt t i 64) from
 
-  pub laying-turn : Bytes t → x ≡ past * 4 + hi / 2 ^ 60 % 4 → y ≡ hi % 2 ^ 60 * 2 ^ 4 + lo / 2 ^ 60
+  pub laying-turn : AllBytes t → x ≡ past * 4 + hi / 2 ^ 60 % 4 → y ≡ hi % 2 ^ 60 * 2 ^ 4 + lo / 2 ^ 60
       → z ≡ x % 2 ^ (b % 8 + 2) * 2 ^ (64 - (b % 8 + 2)) + y / 2 ^ (b % 8 + 2) → Put 8 z (b / 8) out mid
       → v ≡ hi % 2 ^ (16 + c % 8) * 2 ^ (64 - (16 + c % 8)) + lo / 2 ^ (16 + c % 8) → Put 8 v (c / 8 - 8) mid l → Laying t l (lo / 65536) c
   laying-turn B ex ey ez P ev Q =

@@ -2,8 +2,7 @@
 ghost use mathlib.Core.Path.{_≡_};
 ghost use Prim.Native.Nat.{_<_, _≤_, _+_, _*_, _/_, _%_};
 ghost use lib.ListN.{getD, length};
-ghost use Rattle.bits.specs.Bits.{tabulate};
-ghost use Rattle.bits.proofs.Fields.{Bytes};
+ghost use Rattle.bits.specs.Bits.{tabulate, AllBytes};
 ghost use Rattle.lanes.specs.Permutation.{named, permuted, lanesOf, frameOf};
 ghost use Rattle.lanes.specs.Interleaver.{wovenFrame, wovenStore, unwovenFrame, unwovenStore};
 ghost use Rattle.lanes.specs.Blocks.{mergedByte, IsMasks, blockStart, blockByte, Below51};
@@ -102,7 +101,7 @@ fn move_lanes(t: &[usize; 51], z: &[u8], out: &mut [u8], next: &mut [u8])
     requires { ⌜ (length (now z) ≡ 8160) × (length (now out) ≡ 5280) × (length (now next) ≡ 2880) ⌝ }
     ensures { λ _. ⌜ now (out .exit) ≡ tabulate 5280 (λ i. blockByte (now (z .entry)) (i / 165) (getD (now (t .entry)) (i % 165 / 5) 0) (i % 5)) ⌝ }
     ensures { λ _. ⌜ now (next .exit) ≡ tabulate 2880 (λ i. blockByte (now (z .entry)) (i / 90) (getD (now (t .entry)) (33 + i % 90 / 5) 0) (i % 5)) ⌝ }
-    ensures { λ _. ⌜ Bytes (now (z .entry)) ⌝ }
+    ensures { λ _. ⌜ AllBytes (now (z .entry)) ⌝ }
 {
     let mut p: usize = 0;
     while p < 32 {

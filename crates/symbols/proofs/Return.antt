@@ -11,12 +11,12 @@ use lib.Arith.{digits-lt, digits-div, digits-mod}
 use lib.Dec.{eqb, ltb}
 use lib.ListN.{length, getD}
 use borrow.Author.Tests.{lt-ltb, eq-eqb, ne-eqb}
-use Rattle.bits.specs.Bits.{bitOf, bitAt}
+use Rattle.bits.specs.Bits.{bitOf, bitAt, AllBytes}
 use Rattle.bits.specs.Words.{wordOf, wordAt, halfOf, rowOf}
 use Rattle.bits.proofs.Tabulate.{length-tabulate, getD-tabulate, is-tabulate}
 use Rattle.bits.proofs.Value.{value-cong, value-lt, bit-lt, bit-number, number-bits}
 use Rattle.bits.proofs.Count.{count-none}
-use Rattle.bits.proofs.Fields.{Bytes, bitAt-lt, bitAt-byte}
+use Rattle.bits.proofs.Fields.{bitAt-lt, bitAt-byte}
 use Rattle.bits.proofs.Words.{row-at}
 use Rattle.symbols.specs.Mapping.{place, unplace, laneOf, upper, lower, payloadAt, symbolOf, bitIn}
 use Rattle.symbols.specs.Pilots.{pilots, met, wrongPilots, lockLimit, locks}
@@ -178,7 +178,7 @@ carried-words f k l i hk hl hi = go (ℕ-discrete (i % 2) 0)
     go (no e) = rw (ne-eqb (i % 2) 0 e) (at (2 * (l % 63) + (l + 1) % 2) (omega arith) (omega arith) (omega arith))
 
 -- a payload symbol is the frame's
-payload-words : (f : List ℕ) → Bytes f → (m : ℕ) → m < 6048 → payload (wordsOf f) m ≡ getD f (payloadAt m) 0
+payload-words : (f : List ℕ) → AllBytes f → (m : ℕ) → m < 6048 → payload (wordsOf f) m ≡ getD f (payloadAt m) 0
 unfolding payload
 payload-words f B m h =
     let e : 504 * (m / 504) + m % 504 ≡ m = omega arith in
@@ -188,7 +188,7 @@ payload-words f B m h =
     ∙ number-bits 8 (getD f (payloadAt m) 0) (B .byte (payloadAt m))
 
 -- `frame_from_words` of `words_from_frame` gives such a frame back
-pub frame-words : (f : List ℕ) → Bytes f → length f ≡ 6144 → ((k : ℕ) → k < 96 → getD f (64 * k) 0 ≡ getD pilots k 0) → frameOf (wordsOf f) ≡ f
+pub frame-words : (f : List ℕ) → AllBytes f → length f ≡ 6144 → ((k : ℕ) → k < 96 → getD f (64 * k) 0 ≡ getD pilots k 0) → frameOf (wordsOf f) ≡ f
 unfolding frameOf symbolAt
 frame-words f B long P = sym (is-tabulate 0 f 6144 (symbolAt (wordsOf f)) long (λ t h. at t h (ℕ-discrete (t % 64) 0)))
   where

@@ -27,14 +27,17 @@ slice-aggregate-next-piece c = sym (c .before .before .loop .inv .1)
 next-piece-requires : tie.Need-next-piece-requires Inv-loop μ-loop
 next-piece-requires c κs = search needs
 
-stopped-requires : tie.Need-stopped-requires Inv-loop μ-loop
-stopped-requires c κs = search needs
+broken-off-requires : tie.Need-broken-off-requires Inv-loop μ-loop
+broken-off-requires c κs = search needs
 
 returns : tie.Need-returns Inv-loop μ-loop
-returns c = answers-failed _ _ _ (c .before .before .before .before .before .before .loop .inv .0) (c .stopped .ensures)
+returns c = answers-failed _ _ (c .before .before .before .before .before .before .loop .inv .0) _ (c .broken-off .ensures)
+
+to-the-end-requires : tie.Need-to-the-end-requires Inv-loop μ-loop
+to-the-end-requires c κs = search needs
 
 returns-2 : tie.Need-returns-2 Inv-loop μ-loop
-returns-2 c = answers _ _ (c .before .before .before .before .before .before .loop .inv .0)
+returns-2 c = answers _ _ (c .before .before .before .before .before .before .before .loop .inv .0) _ (c .to-the-end .ensures)
 
 sub-step : tie.Need-sub-step Inv-loop μ-loop
 sub-step c = search needs
@@ -57,8 +60,11 @@ loop-less c = reading-less _ _ (c .before .before .before .before .before .befor
 loop-again : tie.Need-loop-again Inv-loop μ-loop
 loop-again c = (reading-goes _ _ (c .before .before .before .before .before .before .before .before .before .before .before .loop .inv .0) (c .before .before .before .before .before .before .before .before .before .before .loop-test .taken) (c .before .before .before .before .before .before .before .before .next-piece .last .1 .0) (c .before .before .before .before .before .before .before .before .next-piece .result .end) (search needs) (search needs) (c .before .before .before .before .before .before .before .before .next-piece .ensures .2) _ (c .before .step .ensures .1) (c .before .step .ensures .0) _ (c .is-stopped .ensures), c .before .before .before .before .before .before .before .before .next-piece .ensures .0)
 
+to-the-end-requires-2 : tie.Need-to-the-end-requires-2 Inv-loop μ-loop
+to-the-end-requires-2 c κs = search needs
+
 returns-3 : tie.Need-returns-3 Inv-loop μ-loop
-returns-3 c = answers _ _ (c .before .loop .inv .0)
+returns-3 c = answers _ _ (c .before .before .loop .inv .0) _ (c .to-the-end2 .ensures)
 
 pub follow-spec : {M : Type 1} → statement M
 follow-spec =
@@ -70,8 +76,9 @@ follow-spec =
     loop-holds
     slice-aggregate-next-piece
     next-piece-requires
-    stopped-requires
+    broken-off-requires
     returns
+    to-the-end-requires
     returns-2
     sub-step
     part-step-start
@@ -80,4 +87,5 @@ follow-spec =
     is-stopped-requires
     loop-less
     loop-again
+    to-the-end-requires-2
     returns-3)
