@@ -1,0 +1,549 @@
+//! Compares the reports of a program, byte for byte, with those of the run over many seeded
+//! captures, each given to the program on its standard input.
+//!
+//! About half of the captures are undisturbed, with an allowance near the flagged words that come.
+//! The others have one or two disturbances: in the numbers, the frames, the records or the end. Now
+//! and then one is of random bytes.
+
+use second::account::{count_flags, FAIL, NOT_MEASURED, PASS};
+use second::capture::{
+    frame_record, order_record, Order, FRAME_RECORD, LENGTH_BYTES, ORDER_RECORD,
+};
+use second::lanes::{LANES_BYTES, STORE_BYTES};
+use second::receive::receive;
+use second::run::{Run, Stop};
+use second::send::send;
+use second::symbols::{bit_place, FRAME_SYMBOLS, NO_LOCK, PILOT_COUNT, ROW_SYMBOLS};
+use second::word::{FRAME_WORDS, WORD_BITS};
+use second::xorshift::Xorshift;
+use std::ffi::OsString;
+use std::io::{self, ErrorKind, Read, Write};
+use std::process::{Command, ExitCode, Stdio};
+use std::{env, fs, thread};
+
+/// Odd, so that no two captures have the same seed.
+const SEED: u64 = 0x6154_0018_0006_0B0B;
+const POOL_SEED: u64 = 0x0384_6144_0024_0025;
+
+/// No more frames in a capture, so that many captures take little time.
+const MOST_FRAMES: usize = 5;
+
+/// From so many captures on, every verdict and every stop must have occurred.
+const ENOUGH: u64 = 1_000;
+
+/// Longer than any report: of a program that writes without end no more is read.
+const REPORT_LIMIT: u64 = 4_096;
+
+/// Where version, kind and a frame's number stand in a record.
+const VERSION_PLACE: usize = LENGTH_BYTES;
+const KIND_PLACE: usize = LENGTH_BYTES + 1;
+const NUMBER_PLACE: usize = LENGTH_BYTES + 2;
+
+type Records = Vec<Vec<u8>>;
+
+fn below(random: &mut Xorshift, limit: usize) -> usize {
+    random.below(limit as u64) as usize
+}
+
+fn pick<T: Copy>(random: &mut Xorshift, from: &[T]) -> T {
+    from[below(random, from.len())]
+}
+
+fn random_bytes(random: &mut Xorshift, length: usize) -> Vec<u8> {
+    (0..length).map(|_| random.next_u64() as u8).collect()
+}
+
+/// So many different numbers below the limit.
+fn choose(random: &mut Xorshift, limit: usize, count: usize) -> Vec<usize> {
+    let mut chosen = Vec::new();
+    while chosen.len() < count {
+        let number = below(random, limit);
+        if !chosen.contains(&number) {
+            chosen.push(number);
+        }
+    }
+    chosen
+}
+
+struct Frame {
+    symbols: [u8; FRAME_SYMBOLS],
+    flagged: u32,
+}
+
+/// Frames made once: sending one for each place of each capture would take most of the time.
+struct Pool {
+    locked: Vec<Frame>,
+    lost: Vec<Frame>,
+}
+
+impl Pool {
+    fn new() -> Self {
+        let mut random = Xorshift::new(POOL_SEED);
+        let mut store = [0; STORE_BYTES];
+        let mut frames = |count: usize, wrong_pilots: &[usize]| {
+            (0..count)
+                .map(|n| {
+                    let pilots = wrong_pilots[n / 4 % wrong_pilots.len()];
+                    frame(&mut random, &mut store, n % 4, pilots)
+                })
+                .collect()
+        };
+        Pool {
+            locked: frames(32, &[0, NO_LOCK - 1, 0, 1]),
+            lost: frames(12, &[NO_LOCK, NO_LOCK + 1, PILOT_COUNT]),
+        }
+    }
+}
+
+/// The next frame of a sender's run: clean, or up to two flips in some words, or up to six in a few
+/// words, or up to six in every word.
+fn frame(random: &mut Xorshift, store: &mut [u8], damage: usize, wrong_pilots: usize) -> Frame {
+    let lanes = random_bytes(random, LANES_BYTES);
+    let mut symbols = [0; FRAME_SYMBOLS];
+    assert_eq!(send(&lanes, store, &mut symbols), 0);
+    let (words, most) = [(0, 0), (50, 2), (5, 6), (FRAME_WORDS, 6)][damage];
+    for word in choose(random, FRAME_WORDS, words) {
+        let flips = below(random, most + 1);
+        for number in choose(random, usize::from(WORD_BITS), flips) {
+            let (symbol, bit) = bit_place(word / 32, word % 32, number);
+            symbols[symbol] ^= bit;
+        }
+    }
+    for pilot in choose(random, PILOT_COUNT, wrong_pilots) {
+        symbols[ROW_SYMBOLS * pilot] ^= 1 + random.below(255) as u8;
+    }
+    let mut flags = [0; FRAME_WORDS];
+    let mut lanes = [0; LANES_BYTES];
+    let refusal = receive(&symbols, &mut [0; STORE_BYTES], &mut lanes, &mut flags);
+    assert_eq!(refusal, if wrong_pilots < NO_LOCK { 0 } else { 5 });
+    Frame {
+        symbols,
+        flagged: count_flags(&flags)[3] as u32,
+    }
+}
+
+fn seed(number: u64) -> u64 {
+    SEED.wrapping_mul(number)
+}
+
+fn capture(number: u64, pool: &Pool) -> Vec<u8> {
+    let mut random = Xorshift::new(seed(number));
+    let random = &mut random;
+    if random.below(32) == 0 {
+        return noise(random);
+    }
+    let start = random_start(random);
+    let count = if random.below(16) == 0 {
+        0
+    } else {
+        1 + random.below(4) as u32
+    };
+    let asked = if random.below(16) == 0 {
+        let any = random.next_u64() as u32 | 1 << 20;
+        pick(random, &[1_000_001, 1 << 31, u32::MAX, any])
+    } else {
+        count
+    };
+    let mut records = vec![vec![]];
+    let mut flagged = 0;
+    for n in 0..count {
+        let frame = &pool.locked[below(random, pool.locked.len())];
+        flagged += frame.flagged;
+        records.push(frame_record(start.wrapping_add(n), &frame.symbols));
+    }
+    // Near the flagged words, since there the verdict turns.
+    let small = random.below(4) as u32;
+    let near = [flagged.saturating_sub(1), flagged, flagged + 1];
+    let allowed = match random.below(16) {
+        0 => u32::MAX,
+        1..=5 => small,
+        _ => pick(random, &near),
+    };
+    records[0] = order_record(Order {
+        start,
+        asked,
+        allowed,
+    });
+    let disturbances = match random.below(16) {
+        0..=7 => 0,
+        8..=12 => 1,
+        _ => 2,
+    };
+    for _ in 0..disturbances {
+        disturb(random, pool, start, &mut records);
+    }
+    records.concat()
+}
+
+/// Often where numbers run round or change their sign.
+fn random_start(random: &mut Xorshift) -> u32 {
+    let any = random.next_u64() as u32;
+    let near = pick(random, &[0, 1 << 31, u32::MAX, any]);
+    near.wrapping_add(random.below(9) as u32).wrapping_sub(4)
+}
+
+/// Random bytes, but often with a lawful length first: else nearly all would stop by 7.
+fn noise(random: &mut Xorshift) -> Vec<u8> {
+    let most = pick(random, &[8, 40, 3 * FRAME_RECORD]);
+    let length = below(random, most);
+    let mut bytes = random_bytes(random, length);
+    let lawful = pick(random, &[ORDER_RECORD, FRAME_RECORD]);
+    let mut first = ((lawful - LENGTH_BYTES) as u32).to_be_bytes().to_vec();
+    first.extend([random.below(3) as u8, random.below(3) as u8]);
+    let kept = pick(
+        random,
+        &[0, LENGTH_BYTES, VERSION_PLACE + 1, KIND_PLACE + 1],
+    );
+    for (byte, first) in bytes.iter_mut().zip(first).take(kept) {
+        *byte = first;
+    }
+    bytes
+}
+
+fn number_of(record: &[u8]) -> u32 {
+    let bytes = &record[NUMBER_PLACE..NUMBER_PLACE + 4];
+    u32::from_be_bytes(bytes.try_into().expect("four bytes"))
+}
+
+fn put_number(record: &mut [u8], number: u32) {
+    record[NUMBER_PLACE..NUMBER_PLACE + 4].copy_from_slice(&number.to_be_bytes());
+}
+
+fn disturb(random: &mut Xorshift, pool: &Pool, start: u32, records: &mut Records) {
+    let frames: Vec<usize> = (0..records.len())
+        .filter(|&place| records[place].len() == FRAME_RECORD)
+        .collect();
+    let room = frames.len() < MOST_FRAMES;
+    let lost = &pool.lost[below(random, pool.lost.len())].symbols;
+    let locked = &pool.locked[below(random, pool.locked.len())].symbols;
+    // Of no use where there is no frame.
+    let chosen = below(random, frames.len().max(1));
+    match (random.below(14), &frames[..]) {
+        // A gap, at times before a frame without lock, which counts one more.
+        (0, [_, ..]) => {
+            let half = 1 << 31;
+            let gaps = [1, half - 1, half, 999_999, 1_000_000, 1_000_001];
+            let gap = pick(random, &gaps);
+            for &place in &frames[chosen..] {
+                let number = number_of(&records[place]).wrapping_add(gap);
+                put_number(&mut records[place], number);
+            }
+            if random.below(4) == 0 {
+                records[frames[chosen]] = frame_record(number_of(&records[frames[chosen]]), lost);
+            }
+        }
+        // The same record twice, or the same number in place of the next.
+        (1, [_, ..]) => {
+            let place = frames[chosen];
+            let number = number_of(&records[place]);
+            match frames.get(chosen + 1) {
+                Some(&next) if random.below(2) == 0 => put_number(&mut records[next], number),
+                _ if room => records.insert(place + 1, records[place].clone()),
+                _ => (),
+            }
+        }
+        (2, [_, _, ..]) => {
+            let pair = choose(random, frames.len(), 2);
+            records.swap(frames[pair[0]], frames[pair[1]]);
+        }
+        (3, _) if room => {
+            let number = match frames.last() {
+                Some(&last) => number_of(&records[last]).wrapping_add(1),
+                None => start,
+            };
+            records.push(frame_record(number, locked));
+        }
+        (4, [.., last]) => {
+            records.remove(*last);
+        }
+        (5, [_, ..]) => {
+            let place = frames[chosen];
+            records[place] = frame_record(number_of(&records[place]), lost);
+        }
+        // The first order again, or another.
+        (6, _) => {
+            let other = order_record(Order {
+                start: random_start(random),
+                asked: random.below(5) as u32,
+                allowed: random.below(4) as u32,
+            });
+            let order = match records.first() {
+                Some(first) if first.len() == ORDER_RECORD && random.below(2) == 0 => first.clone(),
+                _ => other,
+            };
+            let place = below(random, records.len() + 1);
+            records.insert(place, order);
+        }
+        (kind @ 7..=9, _) if !records.is_empty() => {
+            let place = below(random, records.len());
+            spoil_head(random, &mut records[place], kind);
+        }
+        (10, _) if room => records.insert(0, frame_record(start, locked)),
+        (11, _) if !records.is_empty() => {
+            records.remove(0);
+        }
+        // The beginning of a record, or any bytes.
+        (12, _) => {
+            let length = 1 + below(random, 5);
+            let trailing = match random.below(4) {
+                0 => vec![0; length],
+                1 => order_record(Order {
+                    start,
+                    asked: 1,
+                    allowed: 0,
+                }),
+                2 => frame_record(start, locked),
+                _ => random_bytes(random, length),
+            };
+            records.push(trailing[..length].to_vec());
+        }
+        _ => cut(random, records),
+    }
+}
+
+/// Changes the version, the kind or the length, where the record is long enough to have one.
+fn spoil_head(random: &mut Xorshift, record: &mut [u8], which: u64) {
+    let any = random.next_u64();
+    match which {
+        7 if record.len() > VERSION_PLACE => {
+            record[VERSION_PLACE] = pick(random, &[0, 2, 0x81, 0xFF, any as u8]);
+        }
+        8 if record.len() > KIND_PLACE => {
+            let other = record[KIND_PLACE] ^ 1;
+            record[KIND_PLACE] = pick(random, &[other, other, 2, 0xFF, any as u8]);
+        }
+        9 if record.len() >= LENGTH_BYTES => {
+            let right = u32::from_be_bytes(record[..LENGTH_BYTES].try_into().expect("four bytes"));
+            let lengths = [
+                right.wrapping_sub(1),
+                right.wrapping_add(1),
+                right.swap_bytes(),
+                right | 1 << 16,
+                right | 1 << 31,
+                (ORDER_RECORD - LENGTH_BYTES) as u32,
+                (FRAME_RECORD - LENGTH_BYTES) as u32,
+                0,
+                u32::MAX,
+                any as u32,
+            ];
+            record[..LENGTH_BYTES].copy_from_slice(&pick(random, &lengths).to_be_bytes());
+        }
+        _ => (),
+    }
+}
+
+/// Three times in four within eight bytes of where a record begins or ends.
+fn cut(random: &mut Xorshift, records: &mut Records) {
+    let whole: usize = records.iter().map(Vec::len).sum();
+    let mut left = if random.below(4) == 0 {
+        below(random, whole + 1)
+    } else {
+        let before = below(random, records.len() + 1);
+        let boundary: usize = records[..before].iter().map(Vec::len).sum();
+        (boundary + below(random, 17)).saturating_sub(8)
+    };
+    for record in records.iter_mut() {
+        record.truncate(left);
+        left -= record.len();
+    }
+    records.retain(|record| !record.is_empty());
+}
+
+/// What the program writes with these bytes on its standard input.
+fn answer(program: &OsString, arguments: &[OsString], capture: &[u8]) -> io::Result<Vec<u8>> {
+    let mut child = Command::new(program)
+        .args(arguments)
+        .stdin(Stdio::piped())
+        .stdout(Stdio::piped())
+        .spawn()?;
+    let mut input = child.stdin.take().expect("a pipe");
+    let output = child.stdout.take().expect("a pipe");
+    let mut report = Vec::new();
+    thread::scope(|scope| {
+        let writing = scope.spawn(move || match input.write_all(capture) {
+            // A program that stops early does not read on.
+            Err(error) if error.kind() == ErrorKind::BrokenPipe => Ok(()),
+            written => written,
+        });
+        let read = output.take(REPORT_LIMIT).read_to_end(&mut report);
+        child.wait()?;
+        read?;
+        writing.join().expect("writing does not panic")
+    })?;
+    Ok(report)
+}
+
+/// Escaped, so that no byte of a difference stays unseen.
+fn print_report(whose: &str, report: &[u8]) {
+    eprintln!("{whose}:");
+    for line in report.split_inclusive(|&byte| byte == b'\n') {
+        eprintln!("  {}", line.escape_ascii());
+    }
+}
+
+/// How the captures ended.
+#[derive(Default)]
+struct Seen {
+    captures: u64,
+    accepted: u64,
+    verdicts: [u64; 3],
+    refusals: [u64; 6],
+    second_order: u64,
+    no_order: u64,
+}
+
+impl Seen {
+    fn add(&mut self, run: &Run) {
+        self.captures += 1;
+        self.accepted += run.account.accepted;
+        self.verdicts[run.verdict() as usize] += 1;
+        match run.stop {
+            None => (),
+            Some(Stop::Refused(number @ 6..=11)) => self.refusals[number as usize - 6] += 1,
+            Some(Stop::SecondOrder) => self.second_order += 1,
+            Some(Stop::NoOrder) => self.no_order += 1,
+            Some(stop @ (Stop::Refused(_) | Stop::ReadFailed)) => {
+                unreachable!("no capture stops by {stop:?}")
+            }
+        }
+    }
+
+    fn verdicts(&self) -> [(String, u64); 3] {
+        [
+            ("PASS", PASS),
+            ("FAIL", FAIL),
+            ("NOT MEASURED", NOT_MEASURED),
+        ]
+        .map(|(name, verdict)| (name.to_string(), self.verdicts[verdict as usize]))
+    }
+
+    fn stops(&self) -> Vec<(String, u64)> {
+        let mut stops: Vec<_> = (6..)
+            .zip(self.refusals)
+            .map(|(number, count)| (format!("refusal {number}"), count))
+            .collect();
+        stops.push(("a second order".to_string(), self.second_order));
+        stops.push(("no order".to_string(), self.no_order));
+        stops
+    }
+
+    fn line(&self) -> String {
+        let list = |counts: &[(String, u64)]| {
+            let texts: Vec<_> = counts
+                .iter()
+                .map(|(name, count)| format!("{name} {count}"))
+                .collect();
+            texts.join(", ")
+        };
+        format!(
+            "{} captures, {} frames accepted; {}; stopped by {}",
+            self.captures,
+            self.accepted,
+            list(&self.verdicts()),
+            list(&self.stops())
+        )
+    }
+
+    fn never(&self) -> Vec<String> {
+        self.verdicts()
+            .into_iter()
+            .chain(self.stops())
+            .filter(|&(_, count)| count == 0)
+            .map(|(name, _)| name)
+            .collect()
+    }
+}
+
+/// Tells whether all reports were the same and, of enough captures, whether nothing was left out.
+fn compare(count: u64, program: &OsString, arguments: &[OsString]) -> io::Result<bool> {
+    let pool = Pool::new();
+    let mut seen = Seen::default();
+    for number in 1..=count {
+        let capture = capture(number, &pool);
+        let run = Run::of(&capture);
+        let right = run.report();
+        let given = answer(program, arguments, &capture)?;
+        if given != right.as_bytes() {
+            let (seed, length) = (seed(number), capture.len());
+            eprintln!(
+                "captures: capture {number}, seed {seed:016x}, {length} bytes: the reports differ"
+            );
+            print_report("the program", &given);
+            print_report("the run", right.as_bytes());
+            let file = env::temp_dir().join(format!("captures_{number}.capture"));
+            fs::write(&file, &capture)?;
+            eprintln!("captures: the capture is in {}", file.display());
+            return Ok(false);
+        }
+        seen.add(&run);
+        if number % 500 == 0 {
+            eprintln!("captures: {number} of {count}");
+        }
+    }
+    writeln!(io::stdout(), "{}", seen.line())?;
+    let never = seen.never();
+    if count >= ENOUGH && !never.is_empty() {
+        eprintln!("captures: never occurred: {}", never.join(", "));
+        return Ok(false);
+    }
+    Ok(true)
+}
+
+fn main() -> ExitCode {
+    let mut arguments = env::args_os().skip(1);
+    let count = arguments
+        .next()
+        .and_then(|n| n.to_str()?.parse().ok())
+        .filter(|&n| n > 0);
+    let (Some(count), Some(program)) = (count, arguments.next()) else {
+        eprintln!("usage: captures COUNT PROGRAM [ARGUMENT..]");
+        return ExitCode::from(2);
+    };
+    let rest: Vec<_> = arguments.collect();
+    match compare(count, &program, &rest) {
+        Ok(true) => ExitCode::SUCCESS,
+        Ok(false) => ExitCode::FAILURE,
+        Err(error) => {
+            eprintln!("captures: {error}");
+            ExitCode::FAILURE
+        }
+    }
+}
+
+#[cfg(test)]
+mod tests {
+    use super::*;
+
+    #[test]
+    fn enough_captures_leave_nothing_out() {
+        let pool = Pool::new();
+        let mut seen = Seen::default();
+        assert_eq!(seen.never().len(), 11);
+        for number in 1..=ENOUGH {
+            let capture = capture(number, &pool);
+            assert!(capture.len() <= MOST_FRAMES * FRAME_RECORD + 3 * ORDER_RECORD + 10);
+            seen.add(&Run::of(&capture));
+        }
+        println!("{}", seen.line());
+        assert!(seen.never().is_empty(), "{}", seen.line());
+        let [(_, pass), (_, fail), _] = seen.verdicts();
+        assert!(pass.min(fail) * 10 >= ENOUGH, "{}", seen.line());
+    }
+
+    #[test]
+    fn captures_are_always_the_same() {
+        let (pool, again) = (Pool::new(), Pool::new());
+        for number in 1..100 {
+            assert!(capture(number, &pool) == capture(number, &again));
+        }
+    }
+
+    #[test]
+    fn a_program_that_repeats_its_input_or_does_not_read_it() {
+        let long = vec![b'a'; 1 << 20];
+        let cat = answer(&"cat".into(), &[], &long[..1_000]).expect("cat runs");
+        assert!(cat == long[..1_000]);
+        let quiet = answer(&"true".into(), &[], &long).expect("true runs");
+        assert!(quiet.is_empty());
+    }
+}
