@@ -1,4 +1,22 @@
-/* The sending and receiving logic of the 800LR coherent line, and the verdict on a run, for a host program in C. */
+/* The sending and receiving logic of the 800LR coherent line (OIF-800LR-01.0), the reader of captures, the account of a run and its verdict, for a host program
+ * in C. Link with libadderbloom.a. Nothing here allocates, keeps state of its own, or calls anything: what is kept between calls is the caller's.
+ *
+ * Every call ends, and any bytes, lengths and stored numbers are lawful. Where a call answers a number, 0 is done; any other is the refusal's, the lowest of those
+ * that apply, and a refused call changes nothing:
+ *    1  input is not LR800_LANES bytes long (sending), LR800_FRAME (receiving)
+ *    2  a store is not LR800_STORE bytes long
+ *    3  output is not LR800_FRAME bytes long (sending), LR800_LANES (receiving)
+ *    4  there are not LR800_FLAGS flag bytes
+ *    5  no lock: 25 or more of the 96 pilot bytes differ
+ *    6  a record is cut short
+ *    7  a record's length is not 14 or 6,150
+ *    8  its version is not 1
+ *    9  its kind does not match its length
+ *   10  a frame's number is late: 2^31 or more after the expected one, round 2^32
+ *   11  after the entry, accepted or missing frames would stand above 1,000,000, or some tally above 384,000,000
+ *   12  a frame's tallies do not add up to 384: some of its flag bytes are above 3
+ *
+ * Two things no contract can speak of: buffers, accounts or runs that overlap, and a null pointer, unless it comes with a length of 0. */
 #ifndef ADDERBLOOM_H
 #define ADDERBLOOM_H
 
@@ -9,42 +27,118 @@
 extern "C" {
 #endif
 
+/* ---- Sending and receiving ---- */
+
 #define LR800_LANES 5280 /* 32 lanes of 165 bytes, lane 0 first; the top bit of a byte goes first */
 #define LR800_STORE 2880 /* a delay store; all zero is fresh, any content is lawful */
 #define LR800_FRAME 6144 /* symbols of a frame, a byte each: XI, XQ, YI, YQ, two bits each, XI on top */
 #define LR800_FLAGS 384 /* a byte for each word of a frame, that of word k of lane p at 32 k + p: 0, 1 or 2 bits mended, 3 flagged */
 
 /* Sends a frame. The store is the sender's own: lend it to every call of a stream, and to no receiver.
- * Returns 0 when done: store and output are then written in full. Else the lowest of these, and nothing is changed:
- *   1  input is not LR800_LANES bytes long
- *   2  store is not LR800_STORE bytes long
- *   3  output is not LR800_FRAME bytes long
- * The buffers must not overlap. A length of 0 may come with a null pointer, another length may not. */
+ * Answers 0, 1, 2 or 3. At 0, store and output have been written in full. */
 uint32_t lr800_send(const uint8_t *input, size_t input_length, uint8_t *store, size_t store_length, uint8_t *output, size_t output_length);
 
 /* Receives a frame. The store is the receiver's own: lend it to every call of a stream, and to no sender.
- * Returns 0 when done: store, output and flags are then written in full. Else the lowest of these, and nothing is changed:
- *   1  input is not LR800_FRAME bytes long
- *   2  store is not LR800_STORE bytes long
- *   3  output is not LR800_LANES bytes long
- *   4  flags is not LR800_FLAGS bytes long
- *   5  no lock: 25 or more of the 96 pilot bytes differ. The frame is lost.
+ * Answers 0, 1, 2, 3, 4 or 5. At 0, store, output and flags have been written in full. A frame refused by 5 is lost: it must be entered as a loss
+ * (lr800_account_lose), or the account does not know of it.
  * If both stores were fresh at the first frame and every frame was received, each lane comes back 36 blocks (1,440 bits) later, behind zeros. After a frame
- * that was lost or refused, the next 36 blocks of each lane may be wrong.
- * The buffers must not overlap. A length of 0 may come with a null pointer, another length may not. */
+ * that was lost or refused, the next 36 blocks of each lane may be wrong. */
 uint32_t lr800_receive(const uint8_t *input, size_t input_length, uint8_t *store, size_t store_length, uint8_t *output, size_t output_length,
                        uint8_t *flags, size_t flags_length);
 
-/* The verdict on the numbers of a run: frames asked and flagged words allowed, frames accepted and missing, and words with 0, 1 or 2 bits mended and flagged.
- * Pass 0 for stopped only if an order came first and alone, the capture was read to its end, and no record was refused by 6 to 12. A frame that
- * lr800_receive refused by 5 is missing, and has moved no store; a frame that the account refuses has moved it already.
+/* ---- The account: the host receives, and enters each frame ---- */
+
+/* The next expected number, frames accepted and missing, and words with 0, 1 or 2 bits mended and flagged. Any numbers are lawful. */
+typedef struct lr800_account {
+  uint32_t expected;
+  uint64_t accepted;
+  uint64_t missing;
+  uint64_t clean;
+  uint64_t one;
+  uint64_t two;
+  uint64_t flagged;
+} lr800_account;
+
+/* The account of a new order: start is expected, and every other number is 0. */
+void lr800_account_open(lr800_account *account, uint32_t start);
+
+/* Enters a frame that was received, by its number and its flag bytes: the frames of a gap before it are missing. Answers 0, 4, 10, 11 or 12.
+ * A frame that is refused here has moved the store that was lent to lr800_receive: only a copy made before can undo that. lr800_run_step keeps this rule itself. */
+uint32_t lr800_account_enter(lr800_account *account, uint32_t number, const uint8_t *flags, size_t flags_length);
+
+/* Enters a frame that lr800_receive refused by 5 as a loss: it is missing, and the frames of a gap before it. Answers 0, 10 or 11. */
+uint32_t lr800_account_lose(lr800_account *account, uint32_t number);
+
+/* What is said of a run. What is not set says not measured. */
+enum { LR800_NOT_MEASURED = 0, LR800_PASS = 1, LR800_FAIL = 2 };
+
+/* The verdict on the numbers of a run. Pass 0 for stopped only if an order came first and alone, the capture was read to its end, and no record was refused by 6 to 12.
  * Only the numbers given are judged: no limit is applied, and nothing is known of late frames.
- *   LR800_NOT_MEASURED  the run was stopped, or asked is 0, or accepted is not asked, or missing is not 0, or the four tallies do not total 384 times accepted
+ *   LR800_NOT_MEASURED  stopped is not 0, or asked is 0, or accepted is not asked, or missing is not 0, or the four tallies do not total 384 times accepted
  *   LR800_PASS          else, if flagged is at most allowed
  *   LR800_FAIL          else */
-enum { LR800_NOT_MEASURED = 0, LR800_PASS = 1, LR800_FAIL = 2 };
 uint32_t lr800_verdict(uint32_t asked, uint32_t allowed, uint64_t accepted, uint64_t missing, uint64_t clean, uint64_t one, uint64_t two, uint64_t flagged,
                        uint32_t stopped);
+
+/* ---- Captures ---- */
+
+#define LR800_ORDER_BYTES 18   /* of an order's record */
+#define LR800_FRAME_BYTES 6154 /* of a frame's record, the longest */
+
+/* What stands at a place. */
+enum { LR800_RECORD_NONE = 0, LR800_RECORD_ORDER = 1, LR800_RECORD_FRAME = 2 };
+
+/* A record read. What a kind does not have is 0. */
+typedef struct lr800_record {
+  uint32_t refusal; /* 6 to 9, or 0 */
+  uint32_t kind;    /* LR800_RECORD_NONE at the end and where the record is refused, LR800_RECORD_ORDER, LR800_RECORD_FRAME */
+  uint32_t number;  /* the frame's number; of an order, that of the first frame ordered */
+  uint32_t asked;   /* of an order: frames asked */
+  uint32_t allowed; /* of an order: flagged words allowed */
+  size_t symbols;   /* of a frame: the place in the capture from which its LR800_FRAME symbols lie */
+  size_t next;      /* the next place; neither the end nor a refusal moves it */
+} lr800_record;
+
+/* What stands at a place of a capture. A place at or beyond the end is the end. */
+lr800_record lr800_read(const uint8_t *capture, size_t capture_length, size_t place);
+
+/* How many bytes of a record to ask for, by those of it that are there: 4, then LR800_ORDER_BYTES or LR800_FRAME_BYTES. A host that reads an input asks for more until
+ * it has as many as are wanted, or the input ends, and steps over what it has. */
+size_t lr800_wanted(const uint8_t *piece, size_t piece_length);
+
+/* ---- A whole run: the host gives records, and no rule is left to it ---- */
+
+/* Where a run stands. Any phase above LR800_STOPPED is taken for it. */
+enum { LR800_UNORDERED = 0, LR800_GOING = 1, LR800_STOPPED = 2 };
+
+/* A run: its phase, the order's figures and the account. Any numbers are lawful. All zero is a run before its first record. */
+typedef struct lr800_run {
+  uint32_t phase;
+  uint32_t asked;
+  uint32_t allowed;
+  lr800_account account;
+} lr800_run;
+
+/* A run before its first record. */
+void lr800_run_open(lr800_run *run);
+
+/* One record's bytes, from their beginning; what follows a whole record is not looked at, and no bytes change nothing. The store is the run's own: lend it to every step of
+ * the run, and to nothing else; the first order clears it. The first order opens the account; a frame is received and entered, or without lock entered as a
+ * loss; a refused record or entry, a second order and a frame before any order stop the run, and nothing else changes. A stopped run changes no more.
+ * Answers 0, or 2. Whether the run was stopped is told by its phase. */
+uint32_t lr800_run_step(lr800_run *run, uint8_t *store, size_t store_length, const uint8_t *piece, size_t piece_length);
+
+/* Stops a run, as a host does whose input could not be read to its end. Its figures and its account stay. */
+void lr800_run_stop(lr800_run *run);
+
+/* The verdict of a run: LR800_NOT_MEASURED unless it is going on and was measured. */
+uint32_t lr800_run_verdict(lr800_run run);
+
+#define LR800_REPORT 213 /* room for every report */
+
+/* The report of a run as text, eight lines, each ended by one 0A, at the beginning of a buffer; no 00 is set behind it. Answers how many bytes it takes. A buffer too small for
+ * it is not touched, and the answer is 0. */
+size_t lr800_run_report(lr800_run run, uint8_t *text, size_t text_length);
 
 #ifdef __cplusplus
 }

@@ -1,8 +1,8 @@
 /* Makes the calls that standard input tells and compares every answer and every byte with what it says they must be.
- * A record begins with a byte that is 0 for sending, 1 for receiving and 2 for a verdict. A verdict: its arguments in their order, four or eight bytes each,
- * highest first, and the number. A call of the other two: input, store, output and, of receiving, flags, each its length in four bytes, highest first,
- * and its bytes; then the number, four bytes, and store, output and flags after the call. Guard bytes stand around every buffer, and a buffer of no bytes is
- * lent as a null pointer. */
+ * A record begins with a byte, the function's number in the order of adderbloom.h, lr800_send being 0. Its arguments follow in their order, then the answer, then all that
+ * the call may write as it must be after it: accounts, runs and buffers in the order of the arguments. Numbers have four or eight bytes, highest first, a size_t eight;
+ * accounts, runs and records are their fields; a buffer is its length, four bytes, and its bytes, but after the call only its bytes.
+ * Guard bytes stand around every buffer, account and run; a buffer may begin at any address, and one of no bytes is lent as a null pointer. */
 #include "adderbloom.h"
 #include <stdio.h>
 #include <stdlib.h>
@@ -10,131 +10,323 @@
 
 enum { GUARD = 64, GUARD_BYTE = 0xA5 };
 
+enum { SEND, RECEIVE, ACCOUNT_OPEN, ACCOUNT_ENTER, ACCOUNT_LOSE, VERDICT, READ, WANTED, RUN_OPEN, RUN_STEP, RUN_STOP, RUN_VERDICT, RUN_REPORT, FUNCTIONS,
+       READ_KIND = FUNCTIONS, STEP_PHASE, TALLIES };
+
+/* how often each number occurred that the header lists; of the reports, none, the shortest and the longest */
+enum { MOST_NUMBERS = 6 };
 typedef struct {
-    uint8_t *block;
-    size_t length;
-} buffer;
+    const char *name;
+    size_t count;
+    uint64_t numbers[MOST_NUMBERS];
+    unsigned long seen[MOST_NUMBERS], others;
+} tally;
 
-static unsigned long calls;
+static tally tallies[TALLIES] = {
+    [SEND] = {.name = "lr800_send answered", .count = 4, .numbers = {0, 1, 2, 3}},
+    [RECEIVE] = {.name = "lr800_receive answered", .count = 6, .numbers = {0, 1, 2, 3, 4, 5}},
+    [ACCOUNT_OPEN] = {.name = "lr800_account_open opened", .count = 1, .numbers = {0}},
+    [ACCOUNT_ENTER] = {.name = "lr800_account_enter answered", .count = 5, .numbers = {0, 4, 10, 11, 12}},
+    [ACCOUNT_LOSE] = {.name = "lr800_account_lose answered", .count = 3, .numbers = {0, 10, 11}},
+    [VERDICT] = {.name = "lr800_verdict answered", .count = 3, .numbers = {LR800_NOT_MEASURED, LR800_PASS, LR800_FAIL}},
+    [READ] = {.name = "lr800_read refused by", .count = 5, .numbers = {0, 6, 7, 8, 9}},
+    [READ_KIND] = {.name = "lr800_read found", .count = 3, .numbers = {LR800_RECORD_NONE, LR800_RECORD_ORDER, LR800_RECORD_FRAME}},
+    [WANTED] = {.name = "lr800_wanted answered", .count = 3, .numbers = {4, LR800_ORDER_BYTES, LR800_FRAME_BYTES}},
+    [RUN_OPEN] = {.name = "lr800_run_open opened", .count = 1, .numbers = {0}},
+    [RUN_STEP] = {.name = "lr800_run_step answered", .count = 2, .numbers = {0, 2}},
+    [STEP_PHASE] = {.name = "lr800_run_step left phase", .count = 3, .numbers = {LR800_UNORDERED, LR800_GOING, LR800_STOPPED}},
+    [RUN_STOP] = {.name = "lr800_run_stop left phase", .count = 1, .numbers = {LR800_STOPPED}},
+    [RUN_VERDICT] = {.name = "lr800_run_verdict answered", .count = 3, .numbers = {LR800_NOT_MEASURED, LR800_PASS, LR800_FAIL}},
+    [RUN_REPORT] = {.name = "lr800_run_report answered", .count = 3, .numbers = {0, 74, 203}},
+};
 
-static void stop(const char *what) {
-    fprintf(stderr, "replay: call %lu: %s\n", calls, what);
+static unsigned long calls, in_runs;
+
+static void stop(const char *function, const char *what) {
+    fprintf(stderr, "replay: call %lu: %s %s\n", calls, function, what);
     exit(1);
 }
 
+/* ---- What standard input tells ---- */
+
 static void take(void *to, size_t length) {
-    if (fread(to, 1, length, stdin) != length) stop("the record is cut");
+    if (fread(to, 1, length, stdin) != length) stop("the record", "is cut");
 }
 
-static uint32_t take_number(void) {
+static uint32_t take32(void) {
     uint8_t b[4];
     take(b, sizeof b);
     return (uint32_t)b[0] << 24 | (uint32_t)b[1] << 16 | (uint32_t)b[2] << 8 | b[3];
 }
 
-static uint64_t take_count(void) {
-    uint64_t upper = take_number();
-    return upper << 32 | take_number();
+static uint64_t take64(void) {
+    uint64_t upper = take32();
+    return upper << 32 | take32();
 }
 
-static buffer guarded(size_t length) {
-    buffer b = {malloc(length + 2 * GUARD), length};
-    if (!b.block) stop("no memory");
-    memset(b.block, GUARD_BYTE, length + 2 * GUARD);
-    return b;
+static size_t take_size(void) {
+    uint64_t size = take64();
+    if (size > SIZE_MAX) stop("a size", "does not fit");
+    return (size_t)size;
 }
+
+static lr800_account take_account(void) {
+    lr800_account a;
+    a.expected = take32();
+    a.accepted = take64();
+    a.missing = take64();
+    a.clean = take64();
+    a.one = take64();
+    a.two = take64();
+    a.flagged = take64();
+    return a;
+}
+
+static lr800_run take_run(void) {
+    lr800_run r;
+    r.phase = take32();
+    r.asked = take32();
+    r.allowed = take32();
+    r.account = take_account();
+    return r;
+}
+
+/* ---- What is lent ---- */
+
+typedef struct {
+    uint8_t *block, *bytes;
+    size_t length;
+} guarded;
+
+static guarded guard(size_t length, size_t shift) {
+    guarded g = {malloc(length + shift + 2 * GUARD), NULL, length};
+    if (!g.block) stop("replay", "has no memory");
+    memset(g.block, GUARD_BYTE, length + shift + 2 * GUARD);
+    g.bytes = g.block + GUARD + shift;
+    return g;
+}
+
+/* the guards stand as they were; gives the block back */
+static void release(guarded g, const char *function) {
+    for (const uint8_t *p = g.block; p < g.bytes; p++)
+        if (*p != GUARD_BYTE) stop(function, "wrote before what was lent");
+    for (size_t i = 0; i < GUARD; i++)
+        if (g.bytes[g.length + i] != GUARD_BYTE) stop(function, "wrote behind what was lent");
+    free(g.block);
+}
+
+/* a buffer as it is lent, and as it must be after the call */
+typedef struct {
+    guarded lent;
+    uint8_t *right;
+} buffer;
 
 static buffer take_buffer(void) {
-    buffer b = guarded(take_number());
-    take(b.block + GUARD, b.length);
+    buffer b = {guard(take32(), calls % 8), NULL};
+    take(b.lent.bytes, b.lent.length);
+    b.right = malloc(b.lent.length + 1);
+    if (!b.right) stop("replay", "has no memory");
+    memcpy(b.right, b.lent.bytes, b.lent.length);
     return b;
+}
+
+static void take_after(buffer b) {
+    take(b.right, b.lent.length);
 }
 
 static uint8_t *lent(buffer b) {
-    return b.length ? b.block + GUARD : NULL;
+    return b.lent.length ? b.lent.bytes : NULL;
 }
 
-/* the bytes after the call, guards too */
-static void compare(buffer b, const uint8_t *expected, const char *what) {
-    if (b.length && memcmp(b.block + GUARD, expected, b.length) != 0) stop(what);
-    for (size_t i = 0; i < GUARD; i++)
-        if (b.block[i] != GUARD_BYTE || b.block[GUARD + b.length + i] != GUARD_BYTE) stop("a byte beside a buffer was written");
+static void compare(buffer b, const char *function, const char *what) {
+    if (memcmp(b.lent.bytes, b.right, b.lent.length) != 0) stop(function, what);
+    release(b.lent, function);
+    free(b.right);
 }
 
-/* a buffer that a call may write: lent as it was, compared with what it must be after */
-typedef struct {
-    buffer lent, after;
-    const char *other;
-} written;
-
-static written take_written(const char *other) {
-    buffer b = take_buffer();
-    return (written){b, guarded(b.length), other};
+static void compare_accounts(const lr800_account *a, const lr800_account *b, const char *function) {
+    if (a->expected != b->expected) stop(function, "left another expected number");
+    if (a->accepted != b->accepted) stop(function, "left other accepted frames");
+    if (a->missing != b->missing) stop(function, "left other missing frames");
+    if (a->clean != b->clean || a->one != b->one || a->two != b->two || a->flagged != b->flagged) stop(function, "left other tallies");
 }
 
-static void compare_written(written w) {
-    compare(w.lent, w.after.block + GUARD, w.other);
-    free(w.lent.block);
-    free(w.after.block);
+static void compare_runs(const lr800_run *a, const lr800_run *b, const char *function) {
+    if (a->phase != b->phase) stop(function, "left another phase");
+    if (a->asked != b->asked || a->allowed != b->allowed) stop(function, "left other figures");
+    compare_accounts(&a->account, &b->account, function);
 }
 
-enum { SEND, RECEIVE, VERDICT, KINDS, NUMBERS = 6 };
+/* ---- The calls ---- */
 
-static void report(const char *what, const unsigned long *by_number, int numbers) {
-    printf("%s:", what);
-    for (int n = 0; n < numbers; n++) printf(" %lu answered %d%s", by_number[n], n, n + 1 < numbers ? "," : "\n");
-    /* a replay that met no frame, or not every refusal, has shown nothing */
-    for (int n = 0; n < numbers; n++)
-        if (by_number[n] == 0) stop("a number that never occurred");
+static void count(int which, uint64_t number) {
+    tally *t = &tallies[which];
+    for (size_t n = 0; n < t->count; n++)
+        if (t->numbers[n] == number) {
+            t->seen[n]++;
+            return;
+        }
+    t->others++;
+    if (which != RUN_REPORT) stop(t->name, "a number that is not in its list");
 }
 
-static uint32_t replay_verdict(void) {
-    uint32_t asked = take_number(), allowed = take_number();
-    uint64_t accepted = take_count(), missing = take_count(), clean = take_count(), one = take_count(), two = take_count(), flagged = take_count();
-    uint32_t stopped = take_number(), number = take_number();
-    if (lr800_verdict(asked, allowed, accepted, missing, clean, one, two, flagged, stopped) != number) stop("another verdict");
-    return number;
+/* the answer must be the one told, and is counted */
+static void answered(int which, const char *function, uint64_t number, uint64_t right) {
+    if (number != right) {
+        fprintf(stderr, "replay: %llu, not %llu\n", (unsigned long long)number, (unsigned long long)right);
+        stop(function, "answered another number");
+    }
+    count(which, number);
 }
 
-static uint32_t replay_frame(int kind) {
-    buffer input = take_buffer();
-    written store = take_written("another store"), output = take_written("another output");
-    written flags = {0};
-    if (kind == RECEIVE) flags = take_written("other flags");
-    uint32_t number = take_number();
-    buffer input_before = guarded(input.length);
-    memcpy(input_before.block + GUARD, input.block + GUARD, input.length);
-    take(store.after.block + GUARD, store.after.length);
-    take(output.after.block + GUARD, output.after.length);
-    if (kind == RECEIVE) take(flags.after.block + GUARD, flags.after.length);
+static void replay_frame(int function) {
+    const char *name = function == SEND ? "lr800_send" : "lr800_receive";
+    buffer input = take_buffer(), store = take_buffer(), output = take_buffer(), flags = {{NULL, NULL, 0}, NULL};
+    if (function == RECEIVE) flags = take_buffer();
+    uint32_t right = take32(), number;
+    take_after(store);
+    take_after(output);
+    if (function == RECEIVE) take_after(flags);
+    number = function == SEND
+        ? lr800_send(lent(input), input.lent.length, lent(store), store.lent.length, lent(output), output.lent.length)
+        : lr800_receive(lent(input), input.lent.length, lent(store), store.lent.length, lent(output), output.lent.length, lent(flags), flags.lent.length);
+    answered(function, name, number, right);
+    compare(input, name, "wrote its input");
+    compare(store, name, "left another store");
+    compare(output, name, "left another output");
+    if (function == RECEIVE) compare(flags, name, "left other flags");
+}
 
-    uint32_t got = kind == SEND
-        ? lr800_send(lent(input), input.length, lent(store.lent), store.lent.length, lent(output.lent), output.lent.length)
-        : lr800_receive(lent(input), input.length, lent(store.lent), store.lent.length, lent(output.lent), output.lent.length,
-                        lent(flags.lent), flags.lent.length);
-    if (got != number) stop("another number");
-    compare(input, input_before.block + GUARD, "the input was written");
-    compare_written(store);
-    compare_written(output);
-    if (kind == RECEIVE) compare_written(flags);
-    free(input.block);
-    free(input_before.block);
-    return number;
+static void replay_account(int function) {
+    static const char *const names[] = {"lr800_account_open", "lr800_account_enter", "lr800_account_lose"};
+    const char *name = names[function - ACCOUNT_OPEN];
+    guarded block = guard(sizeof(lr800_account), 0);
+    lr800_account *account = (lr800_account *)(void *)block.bytes, after;
+    *account = take_account();
+    uint32_t number = take32();
+    if (function == ACCOUNT_OPEN) {
+        lr800_account_open(account, number);
+        count(function, 0);
+    } else if (function == ACCOUNT_ENTER) {
+        buffer flags = take_buffer();
+        uint32_t right = take32();
+        answered(function, name, lr800_account_enter(account, number, lent(flags), flags.lent.length), right);
+        compare(flags, name, "wrote the flags");
+    } else {
+        uint32_t right = take32();
+        answered(function, name, lr800_account_lose(account, number), right);
+    }
+    after = take_account();
+    compare_accounts(account, &after, name);
+    release(block, name);
+}
+
+static void replay_verdict(void) {
+    uint32_t asked = take32(), allowed = take32();
+    uint64_t accepted = take64(), missing = take64(), clean = take64(), one = take64(), two = take64(), flagged = take64();
+    uint32_t stopped = take32(), right = take32();
+    answered(VERDICT, "lr800_verdict", lr800_verdict(asked, allowed, accepted, missing, clean, one, two, flagged, stopped), right);
+}
+
+static void replay_read(void) {
+    const char *name = "lr800_read";
+    buffer capture = take_buffer();
+    size_t place = take_size();
+    lr800_record r = lr800_read(lent(capture), capture.lent.length, place);
+    answered(READ, name, r.refusal, take32());
+    uint32_t kind = take32();
+    if (r.kind != kind) stop(name, "gave another kind");
+    if (r.refusal == 0) count(READ_KIND, kind);
+    if (r.number != take32()) stop(name, "gave another number of a frame");
+    if (r.asked != take32()) stop(name, "gave other frames asked");
+    if (r.allowed != take32()) stop(name, "gave other words allowed");
+    if (r.symbols != take_size()) stop(name, "gave another place of symbols");
+    if (r.next != take_size()) stop(name, "gave another next place");
+    compare(capture, name, "wrote the capture");
+}
+
+static void replay_wanted(void) {
+    buffer piece = take_buffer();
+    size_t right = take_size();
+    answered(WANTED, "lr800_wanted", lr800_wanted(lent(piece), piece.lent.length), right);
+    compare(piece, "lr800_wanted", "wrote the piece");
+}
+
+static void replay_run(int function) {
+    const char *name = function == RUN_OPEN ? "lr800_run_open" : function == RUN_STEP ? "lr800_run_step" : "lr800_run_stop";
+    guarded block = guard(sizeof(lr800_run), 0);
+    lr800_run *run = (lr800_run *)(void *)block.bytes, before = take_run(), after;
+    *run = before;
+    if (function == RUN_STEP) {
+        buffer store = take_buffer(), piece = take_buffer();
+        uint32_t right = take32();
+        after = take_run();
+        take_after(store);
+        answered(function, name, lr800_run_step(run, lent(store), store.lent.length, lent(piece), piece.lent.length), right);
+        if (right == 0) count(STEP_PHASE, after.phase);
+        in_runs += after.account.accepted > before.account.accepted;
+        compare(store, name, "left another store");
+        compare(piece, name, "wrote the piece");
+    } else {
+        after = take_run();
+        if (function == RUN_OPEN)
+            lr800_run_open(run);
+        else
+            lr800_run_stop(run);
+        count(function, after.phase);
+    }
+    compare_runs(run, &after, name);
+    release(block, name);
+}
+
+static void replay_run_verdict(void) {
+    lr800_run run = take_run();
+    uint32_t right = take32();
+    answered(RUN_VERDICT, "lr800_run_verdict", lr800_run_verdict(run), right);
+}
+
+static void replay_run_report(void) {
+    lr800_run run = take_run();
+    buffer text = take_buffer();
+    size_t right = take_size();
+    take_after(text);
+    answered(RUN_REPORT, "lr800_run_report", lr800_run_report(run, lent(text), text.lent.length), right);
+    compare(text, "lr800_run_report", "left another text");
+}
+
+/* a replay that did not meet every number has shown nothing of those that it left out */
+static void tell(const tally *t) {
+    printf("%s", t->name);
+    for (size_t n = 0; n < t->count; n++) printf("%s %llu %lu times", n ? "," : "", (unsigned long long)t->numbers[n], t->seen[n]);
+    if (t->others) printf(", others %lu times", t->others);
+    printf("\n");
+    for (size_t n = 0; n < t->count; n++)
+        if (!t->seen[n]) stop(t->name, "not every number of its list");
 }
 
 int main(void) {
-    unsigned long by_number[KINDS][NUMBERS] = {{0}};
-    int kind;
-    while ((kind = getchar()) != EOF) {
-        if (kind >= KINDS) stop("a call of no kind");
-        uint32_t number = kind == VERDICT ? replay_verdict() : replay_frame(kind);
-        if (number < NUMBERS) by_number[kind][number]++;
+    int function;
+    while ((function = getchar()) != EOF) {
+        switch (function) {
+        case SEND:
+        case RECEIVE: replay_frame(function); break;
+        case ACCOUNT_OPEN:
+        case ACCOUNT_ENTER:
+        case ACCOUNT_LOSE: replay_account(function); break;
+        case VERDICT: replay_verdict(); break;
+        case READ: replay_read(); break;
+        case WANTED: replay_wanted(); break;
+        case RUN_OPEN:
+        case RUN_STEP:
+        case RUN_STOP: replay_run(function); break;
+        case RUN_VERDICT: replay_run_verdict(); break;
+        case RUN_REPORT: replay_run_report(); break;
+        default: stop("the record", "is of no function");
+        }
         calls++;
     }
-    if (ferror(stdin)) stop("standard input cannot be read");
-    printf("%lu calls agree\n", calls);
-    report("send", by_number[SEND], 4);
-    report("receive", by_number[RECEIVE], 6);
-    report("verdict", by_number[VERDICT], 3);
+    if (ferror(stdin)) stop("standard input", "cannot be read");
+    printf("%lu calls agree: %lu frames sent, %lu received, %lu more received by runs\n", calls, tallies[SEND].seen[0], tallies[RECEIVE].seen[0], in_runs);
+    for (int t = 0; t < TALLIES; t++) tell(&tallies[t]);
     return 0;
 }

@@ -3,11 +3,11 @@
 use crate::word::FRAME_WORDS;
 
 /// A frame so far ahead of the expected one, or further, is late.
-const LATE: u32 = 1 << 31;
+pub const LATE: u32 = 1 << 31;
 /// Neither accepted nor missing frames may stand above it after an entry.
-const MOST_FRAMES: u64 = 1_000_000;
+pub const MOST_FRAMES: u64 = 1_000_000;
 /// No tally may stand above it after an entry.
-const MOST_WORDS: u64 = 384_000_000;
+pub const MOST_WORDS: u64 = 384_000_000;
 
 pub const NOT_MEASURED: u32 = 0;
 pub const PASS: u32 = 1;
@@ -86,6 +86,14 @@ pub fn enter(account: Account, got: u32, tallies: [u64; 4]) -> (u32, Account) {
         None => (11, account),
         Some(_) if total(tallies) != FRAME_WORDS as u128 => (12, account),
         Some(after) => (0, after),
+    }
+}
+
+/// The same by the frame's flag bytes, which must be one for each word.
+pub fn enter_flags(account: Account, got: u32, flags: &[u8]) -> (u32, Account) {
+    match flags.try_into() {
+        Ok(flags) => enter(account, got, count_flags(flags)),
+        Err(_) => (4, account),
     }
 }
 
@@ -229,6 +237,28 @@ mod tests {
             assert_eq!(count_flags(&flags), [30, 349, 3, 1]);
             refused(12, opened(0), 0, Some(count_flags(&flags)));
         }
+    }
+
+    #[test]
+    fn flags_must_be_one_for_each_word() {
+        let before = account(9, [5, 4, 300, 200, 100, 50]);
+        let mut flags = [0; 384];
+        flags[7..9].fill(3);
+        flags[383] = 1;
+        let after = account(12, [6, 6, 681, 201, 100, 52]);
+        assert_eq!(enter_flags(before, 11, &flags), (0, after));
+        // Too few or too many are told first, before a late number, a limit and a byte above 3.
+        flags[0] = 4;
+        let above = account(9, [1_000_000, 0, 0, 0, 0, 0]);
+        for length in [0, 1, 383, 385, 768, 6_144] {
+            for (before, got) in [(before, 9), (before, 8), (above, 9), (above, 8)] {
+                let flags: Vec<u8> = flags.into_iter().cycle().take(length).collect();
+                assert_eq!(enter_flags(before, got, &flags), (4, before));
+            }
+        }
+        assert_eq!(enter_flags(above, 8, &flags), (10, above));
+        assert_eq!(enter_flags(above, 9, &flags), (11, above));
+        assert_eq!(enter_flags(before, 9, &flags), (12, before));
     }
 
     #[test]

@@ -15,6 +15,10 @@ const FRAME_LENGTH: usize = 6 + FRAME_SYMBOLS;
 pub const ORDER_RECORD: usize = LENGTH_BYTES + ORDER_LENGTH;
 pub const FRAME_RECORD: usize = LENGTH_BYTES + FRAME_LENGTH;
 
+/// Where version and kind stand in a record.
+pub const VERSION_PLACE: usize = LENGTH_BYTES;
+pub const KIND_PLACE: usize = LENGTH_BYTES + 1;
+
 const VERSION: u8 = 1;
 const ORDER_KIND: u8 = 0;
 const FRAME_KIND: u8 = 1;
@@ -132,6 +136,63 @@ impl<'a> Reader<'a> {
             Answer::Frame { .. } => FRAME_RECORD,
         };
         answer
+    }
+}
+
+/// How many bytes of a record to ask for, by those of it that are there: where the length is not
+/// lawful, no more than those that tell so.
+pub fn wanted(piece: &[u8]) -> usize {
+    LENGTH_BYTES + length(piece).unwrap_or(0)
+}
+
+/// A record's kind in numbers.
+pub const NONE: u32 = 0;
+pub const ORDER: u32 = 1;
+pub const FRAME: u32 = 2;
+
+/// A reader's answer in numbers: what a kind does not have is 0, and so is the refusal of a record
+/// that is not refused.
+#[derive(Clone, Copy, Debug, Default, PartialEq, Eq)]
+pub struct Record {
+    pub refusal: u32,
+    pub kind: u32,
+    pub number: u32,
+    pub asked: u32,
+    pub allowed: u32,
+    pub symbols: usize,
+    pub next: usize,
+}
+
+/// What stands at a place of a capture.
+pub fn read(capture: &[u8], place: usize) -> Record {
+    let mut reader = Reader::at(capture, place);
+    let answer = reader.next_record();
+    let next = reader.place();
+    match answer {
+        Answer::End => Record {
+            next,
+            ..Record::default()
+        },
+        Answer::Refused(refusal) => Record {
+            refusal,
+            next,
+            ..Record::default()
+        },
+        Answer::Order(order) => Record {
+            kind: ORDER,
+            number: order.start,
+            asked: order.asked,
+            allowed: order.allowed,
+            next,
+            ..Record::default()
+        },
+        Answer::Frame { number, symbols } => Record {
+            kind: FRAME,
+            number,
+            symbols: next - symbols.len(),
+            next,
+            ..Record::default()
+        },
     }
 }
 
@@ -478,5 +539,74 @@ mod tests {
             assert!(seen[number] > 50, "{seen:?}");
         }
         assert!(whole.iter().all(|&count| count > 1_000), "{whole:?}");
+    }
+
+    #[test]
+    fn a_record_in_numbers() {
+        let mut random = Xorshift::new(88);
+        let symbols = random_symbols(&mut random);
+        let capture = [&ORDER_BYTES[..], &FRAME_START, &symbols, &[0, 0, 0]].concat();
+        let order = Record {
+            kind: 1,
+            number: 0x0102_0304,
+            asked: 0x8596_A7B8,
+            allowed: 0xF0E1_D2C3,
+            next: 18,
+            ..Record::default()
+        };
+        assert_eq!(read(&capture, 0), order);
+        let frame = Record {
+            kind: 2,
+            number: NUMBER,
+            symbols: 28,
+            next: 18 + 6_154,
+            ..Record::default()
+        };
+        assert_eq!(read(&capture, 18), frame);
+        assert!(capture[28..][..6_144] == symbols);
+        // Neither a refusal nor the end moves the place.
+        let stays = |refusal, next| Record {
+            refusal,
+            next,
+            ..Record::default()
+        };
+        for (place, refusal) in [(1, 7), (17, 7), (6_172, 6), (6_174, 6)] {
+            assert_eq!(read(&capture, place), stays(refusal, place));
+        }
+        for place in [6_175, 6_176, 1 << 32, usize::MAX - 3, usize::MAX] {
+            assert_eq!(read(&capture, place), stays(0, place));
+        }
+        for (at, refusal) in [(4, 8), (5, 9)] {
+            let mut spoilt = capture.clone();
+            spoilt[18 + at] = 2;
+            assert_eq!(read(&spoilt, 18), stays(refusal, 18));
+            assert_eq!(read(&spoilt[..6_171], 18), stays(6, 18));
+        }
+        assert_eq!(read(&[], 0), Record::default());
+    }
+
+    /// Bytes that come one by one until there are as many as are wanted make a record, or tell
+    /// that there will be none.
+    #[test]
+    fn as_much_of_a_record_is_wanted_as_there_is() {
+        let mut random = Xorshift::new(89);
+        let symbols = random_symbols(&mut random);
+        let frame = [&FRAME_START[..], &symbols].concat();
+        for (record, whole) in [
+            (&ORDER_BYTES[..], 18),
+            (&frame, 6_154),
+            (&[0, 0, 0, 15, 1], 4),
+        ] {
+            for count in 0..=record.len() {
+                let right = if count < 4 { 4 } else { whole };
+                assert_eq!(wanted(&record[..count]), right);
+            }
+            let mut piece = vec![];
+            while piece.len() < wanted(&piece) {
+                piece.push(record[piece.len()]);
+            }
+            let refused = first_answer(&piece) == Answer::Refused(7);
+            assert!(piece == record[..whole] && refused == (whole == 4));
+        }
     }
 }

@@ -2,6 +2,7 @@
 
 pub mod account;
 pub mod capture;
+pub mod kept;
 pub mod lanes;
 pub mod receive;
 pub mod run;

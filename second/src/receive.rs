@@ -161,10 +161,6 @@ mod tests {
     use crate::symbols::bit_place;
     use crate::xorshift::Xorshift;
 
-    fn random_bytes(random: &mut Xorshift, length: usize) -> Vec<u8> {
-        (0..length).map(|_| random.next_u64() as u8).collect()
-    }
-
     type Way = fn(&[u8], &mut [u8], &mut [u8], &mut [u8]) -> u32;
 
     const ALL: [Way; 2] = [receive, receive_by_rule];
@@ -178,8 +174,8 @@ mod tests {
         let [first, second] = ALL.map(|way| {
             let mut store = store.clone();
             // Whatever stands in the output and the flags must not matter.
-            let mut output = random_bytes(random, 5_280);
-            let mut flags = random_bytes(random, 384);
+            let mut output = random.bytes(5_280);
+            let mut flags = random.bytes(384);
             assert_eq!(way(input, &mut store, &mut output, &mut flags), 0);
             (store, output, flags)
         });
@@ -191,7 +187,7 @@ mod tests {
     }
 
     fn send_random(random: &mut Xorshift, store: &mut [u8]) -> (Vec<u8>, Vec<u8>) {
-        let input = random_bytes(random, 5_280);
+        let input = random.bytes(5_280);
         let mut frame = vec![0; 6_144];
         assert_eq!(send(&input, store, &mut frame), 0);
         (input, frame)
@@ -204,25 +200,13 @@ mod tests {
         }
     }
 
-    /// So many different numbers below the limit.
-    fn choose(random: &mut Xorshift, limit: u64, count: usize) -> Vec<usize> {
-        let mut chosen = Vec::new();
-        while chosen.len() < count {
-            let number = random.below(limit) as usize;
-            if !chosen.contains(&number) {
-                chosen.push(number);
-            }
-        }
-        chosen
-    }
-
     fn flip_any(random: &mut Xorshift, frame: &mut [u8], word: usize, count: usize) {
-        let numbers = choose(random, 126, count);
+        let numbers = random.choose(126, count);
         flip(frame, word, &numbers);
     }
 
     fn spoil_pilots(random: &mut Xorshift, frame: &mut [u8], count: usize) {
-        for number in choose(random, 96, count) {
+        for number in random.choose(96, count) {
             frame[64 * number] ^= 1 + random.below(255) as u8;
         }
     }
@@ -232,11 +216,11 @@ mod tests {
         let mut random = Xorshift::new(41);
         let mut seen = [0; 4];
         for _ in 0..60 {
-            let mut input = random_bytes(&mut random, 6_144);
+            let mut input = random.bytes(6_144);
             for (row, pilot) in PILOTS.into_iter().enumerate() {
                 input[64 * row] = pilot;
             }
-            let mut store = random_bytes(&mut random, 2_880);
+            let mut store = random.bytes(2_880);
             let (_, flags) = receive_both_ways(&mut random, &input, &mut store);
             for flag in flags {
                 seen[usize::from(flag)] += 1;
@@ -349,7 +333,7 @@ mod tests {
                 flip(&mut damaged, word, numbers);
                 expected[word] = numbers.len() as u8;
             }
-            let before = random_bytes(&mut random, 2_880);
+            let before = random.bytes(2_880);
             let (mut of_clean, mut of_damaged) = (before.clone(), before);
             let (lanes, flags) = receive_both_ways(&mut random, &clean, &mut of_clean);
             assert_eq!(flags, [0; 384]);
@@ -381,7 +365,7 @@ mod tests {
         for _ in 0..20 {
             let (_, clean) = send_random(&mut random, &mut [0; 2_880]);
             let mut damaged = clean.clone();
-            let before = random_bytes(&mut random, 2_880);
+            let before = random.bytes(2_880);
             let (mut of_clean, mut of_damaged) = (before.clone(), before);
             let (mut expected, _) = receive_both_ways(&mut random, &clean, &mut of_clean);
             expected.extend(of_clean);
@@ -391,7 +375,7 @@ mod tests {
                     continue;
                 }
                 *flag = 3;
-                let numbers = choose(&mut random, 126, 3);
+                let numbers = random.choose(126, 3);
                 flip(&mut damaged, word, &numbers);
                 for q in numbers.into_iter().filter(|&number| number < 110) {
                     let (byte, bit) = passes_to(word / 32, word % 32, q);
@@ -413,7 +397,7 @@ mod tests {
             input[64 * row] = pilot;
         }
         for _ in 0..20 {
-            let before = random_bytes(&mut random, 2_880);
+            let before = random.bytes(2_880);
             let mut after = before.clone();
             let (output, flags) = receive_both_ways(&mut random, &input, &mut after);
             assert_eq!(flags, [0; 384]);
@@ -458,7 +442,7 @@ mod tests {
     /// The input begins with a frame in which so many pilots are wrong.
     fn long_buffers(seed: u64, wrong: usize) -> [Vec<u8>; 4] {
         let mut random = Xorshift::new(seed);
-        let mut buffers = [(); 4].map(|()| random_bytes(&mut random, 20_000));
+        let mut buffers = [(); 4].map(|()| random.bytes(20_000));
         let (_, mut frame) = send_random(&mut random, &mut [0; 2_880]);
         spoil_pilots(&mut random, &mut frame, wrong);
         buffers[0][..6_144].copy_from_slice(&frame);

@@ -83,6 +83,7 @@ impl Run {
         }
         self.order = Some(order);
         self.account = opened(order.start);
+        self.store = [0; STORE_BYTES];
         Ok(())
     }
 
@@ -122,34 +123,38 @@ impl Run {
         )
     }
 
-    /// Every line ends in one byte 0A, the last too.
     pub fn report(&self) -> String {
         let asked = self.order.map_or(0, |order| order.asked);
-        let Account {
-            expected: _,
-            accepted,
-            missing,
-            clean,
-            one,
-            two,
-            flagged,
-        } = self.account;
-        let verdict = match self.verdict() {
-            PASS => "PASS",
-            FAIL => "FAIL",
-            _ => "NOT MEASURED",
-        };
-        format!(
-            "asked {asked}\n\
-             accepted {accepted}\n\
-             missing {missing}\n\
-             clean {clean}\n\
-             one {one}\n\
-             two {two}\n\
-             flagged {flagged}\n\
-             verdict {verdict}\n"
-        )
+        report(asked, self.account, self.verdict())
     }
+}
+
+/// Every line ends in one byte 0A, the last too.
+pub fn report(asked: u32, account: Account, verdict: u32) -> String {
+    let Account {
+        expected: _,
+        accepted,
+        missing,
+        clean,
+        one,
+        two,
+        flagged,
+    } = account;
+    let verdict = match verdict {
+        PASS => "PASS",
+        FAIL => "FAIL",
+        _ => "NOT MEASURED",
+    };
+    format!(
+        "asked {asked}\n\
+         accepted {accepted}\n\
+         missing {missing}\n\
+         clean {clean}\n\
+         one {one}\n\
+         two {two}\n\
+         flagged {flagged}\n\
+         verdict {verdict}\n"
+    )
 }
 
 impl Default for Run {

@@ -150,10 +150,6 @@ mod tests {
     use crate::word::{is_code_word, only_bit};
     use crate::xorshift::Xorshift;
 
-    fn random_bytes(random: &mut Xorshift, length: usize) -> Vec<u8> {
-        (0..length).map(|_| random.next_u64() as u8).collect()
-    }
-
     type Way = fn(&[u8], &mut [u8], &mut [u8]) -> u32;
 
     fn send_parity_by_bit(input: &[u8], store: &mut [u8], output: &mut [u8]) -> u32 {
@@ -167,7 +163,7 @@ mod tests {
         let mut results = ALL.iter().map(|way| {
             let mut store = store.clone();
             // Whatever stands in the output must not matter.
-            let mut output = random_bytes(random, 6_144);
+            let mut output = random.bytes(6_144);
             assert_eq!(way(input, &mut store, &mut output), 0);
             (store, output)
         });
@@ -184,8 +180,8 @@ mod tests {
     fn send_agrees_with_the_rule_on_random_frames_and_stores() {
         let mut random = Xorshift::new(31);
         for _ in 0..100 {
-            let input = random_bytes(&mut random, 5_280);
-            let mut store = random_bytes(&mut random, 2_880);
+            let input = random.bytes(5_280);
+            let mut store = random.bytes(2_880);
             send_three_ways(&mut random, &input, &mut store);
         }
     }
@@ -195,7 +191,7 @@ mod tests {
         let mut random = Xorshift::new(32);
         let mut store = vec![0; 2_880];
         for _ in 0..100 {
-            let input = random_bytes(&mut random, 5_280);
+            let input = random.bytes(5_280);
             send_three_ways(&mut random, &input, &mut store);
         }
     }
@@ -262,7 +258,7 @@ mod tests {
         let mut came_in = vec![Bits::new(); 32];
         let mut went_out = vec![Bits::new(); 32];
         for _ in 0..FRAMES {
-            let input = random_bytes(&mut random, 5_280);
+            let input = random.bytes(5_280);
             let mut output = vec![0; 6_144];
             assert_eq!(send(&input, &mut store, &mut output), 0);
             for p in 0..32 {
@@ -301,7 +297,7 @@ mod tests {
 
     fn long_buffers(seed: u64) -> [Vec<u8>; 3] {
         let mut random = Xorshift::new(seed);
-        [(); 3].map(|()| random_bytes(&mut random, 20_000))
+        [(); 3].map(|()| random.bytes(20_000))
     }
 
     #[test]

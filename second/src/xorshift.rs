@@ -30,4 +30,24 @@ impl Xorshift {
     pub fn below(&mut self, limit: u64) -> u64 {
         (self.next_u64() >> 16) % limit
     }
+
+    pub fn bytes(&mut self, length: usize) -> Vec<u8> {
+        (0..length).map(|_| self.next_u64() as u8).collect()
+    }
+
+    pub fn pick<T: Copy>(&mut self, from: &[T]) -> T {
+        from[self.below(from.len() as u64) as usize]
+    }
+
+    /// So many different numbers below the limit.
+    pub fn choose(&mut self, limit: usize, count: usize) -> Vec<usize> {
+        let mut chosen = Vec::new();
+        while chosen.len() < count {
+            let number = self.below(limit as u64) as usize;
+            if !chosen.contains(&number) {
+                chosen.push(number);
+            }
+        }
+        chosen
+    }
 }

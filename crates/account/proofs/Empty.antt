@@ -1,4 +1,4 @@
--- Accounts that the contracts of `enter` and `enter_in` forbid: a refused entry that moves the expected number, and one that is taken and changes nothing.
+-- Accounts that the contract of `enter` forbids: a refused entry that moves the expected number, and one that is taken and changes nothing.
 -- Assumes nothing.
 use mathlib.Core.Path.{_≡_, ap}
 use Prim.Native.Nat.{ℕ}

@@ -4,6 +4,5 @@ pub mod Entered
 pub mod Taken
 pub mod Judged
 pub mod Kept
-pub mod Lent
 pub mod Determined
 pub mod Empty

@@ -1,4 +1,4 @@
-// The account of a run and its verdict: what each frame changes, by value and in place, and what may be said in the end.
+// The account of a run and its verdict: what each frame changes, and what may be said in the end.
 ghost use mathlib.Core.Path.{_≡_};
 ghost use mathlib.Core.Bool.{false, cond};
 ghost use Prim.Native.Nat.{_+_, _^_, _<_, _≤_};
@@ -8,6 +8,7 @@ ghost use Rattle.bits.specs.Bits.{count};
 ghost use Rattle.account.specs.Account.{tallyLimit, talliesOf, ahead, late, opened, total, added, grown, over, frameEntered, lossEntered, measured, verdict, verdictNumber};
 
 // How many words had 0, 1 or 2 bits mended, or were flagged.
+#[repr(C)]
 pub struct Tallies {
     pub clean: u64,
     pub one: u64,
@@ -16,6 +17,7 @@ pub struct Tallies {
 }
 
 // The next expected number, frames accepted and missing, and the tallies of their words.
+#[repr(C)]
 pub struct Account {
     pub expected: u32,
     pub accepted: u64,
@@ -252,31 +254,6 @@ pub fn lose(a: Account, got: u32) -> Entry
         refusal: 0,
         account: b,
     }
-}
-
-// The account lent: an entry in place. A refused one leaves it as it was.
-pub fn enter_in(a: &mut Account, got: u32, t: Tallies) -> u32
-    ensures { λ r. ⌜ record { refusal = r; account = now (a .exit) } ≡ frameEntered (now (a .entry)) got t ⌝ }
-{
-    let e = enter(*a, got, t);
-    *a = e.account;
-    e.refusal
-}
-
-// A loss in place. A refused one leaves the account as it was.
-pub fn lose_in(a: &mut Account, got: u32) -> u32
-    ensures { λ r. ⌜ record { refusal = r; account = now (a .exit) } ≡ lossEntered (now (a .entry)) got ⌝ }
-{
-    let l = lose(*a, got);
-    *a = l.account;
-    l.refusal
-}
-
-// The account of a new order in place of the one lent.
-pub fn open_in(a: &mut Account, start: u32)
-    ensures { λ _. ⌜ now (a .exit) ≡ opened start ⌝ }
-{
-    *a = opened(start);
 }
 
 // Whether what was asked, all of it and nothing else, was measured.

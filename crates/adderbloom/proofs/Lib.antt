@@ -1,1 +1,4 @@
+pub mod Calls
+pub mod Lent
+pub mod Structs
 pub mod Determined

@@ -1,4 +1,8 @@
 // What a rig's host program in C calls. A slice passes as a pointer and a length, in that order.
+mod entries;
+mod records;
+mod runs;
+
 ghost use Rattle.framing.specs.Call.{base};
 ghost use Rattle.framing.specs.Send.{Sends};
 ghost use Rattle.framing.specs.Receive.{Receives};

@@ -7,7 +7,8 @@
 
 use second::account::{count_flags, FAIL, NOT_MEASURED, PASS};
 use second::capture::{
-    frame_record, order_record, Order, FRAME_RECORD, LENGTH_BYTES, ORDER_RECORD,
+    frame_record, order_record, Order, FRAME_RECORD, KIND_PLACE, LENGTH_BYTES, ORDER_RECORD,
+    VERSION_PLACE,
 };
 use second::lanes::{LANES_BYTES, STORE_BYTES};
 use second::receive::receive;
@@ -34,35 +35,13 @@ const ENOUGH: u64 = 1_000;
 /// Longer than any report: of a program that writes without end no more is read.
 const REPORT_LIMIT: u64 = 4_096;
 
-/// Where version, kind and a frame's number stand in a record.
-const VERSION_PLACE: usize = LENGTH_BYTES;
-const KIND_PLACE: usize = LENGTH_BYTES + 1;
+/// Where a frame's number stands in a record.
 const NUMBER_PLACE: usize = LENGTH_BYTES + 2;
 
 type Records = Vec<Vec<u8>>;
 
 fn below(random: &mut Xorshift, limit: usize) -> usize {
     random.below(limit as u64) as usize
-}
-
-fn pick<T: Copy>(random: &mut Xorshift, from: &[T]) -> T {
-    from[below(random, from.len())]
-}
-
-fn random_bytes(random: &mut Xorshift, length: usize) -> Vec<u8> {
-    (0..length).map(|_| random.next_u64() as u8).collect()
-}
-
-/// So many different numbers below the limit.
-fn choose(random: &mut Xorshift, limit: usize, count: usize) -> Vec<usize> {
-    let mut chosen = Vec::new();
-    while chosen.len() < count {
-        let number = below(random, limit);
-        if !chosen.contains(&number) {
-            chosen.push(number);
-        }
-    }
-    chosen
 }
 
 struct Frame {
@@ -98,18 +77,18 @@ impl Pool {
 /// The next frame of a sender's run: clean, or up to two flips in some words, or up to six in a few
 /// words, or up to six in every word.
 fn frame(random: &mut Xorshift, store: &mut [u8], damage: usize, wrong_pilots: usize) -> Frame {
-    let lanes = random_bytes(random, LANES_BYTES);
+    let lanes = random.bytes(LANES_BYTES);
     let mut symbols = [0; FRAME_SYMBOLS];
     assert_eq!(send(&lanes, store, &mut symbols), 0);
     let (words, most) = [(0, 0), (50, 2), (5, 6), (FRAME_WORDS, 6)][damage];
-    for word in choose(random, FRAME_WORDS, words) {
+    for word in random.choose(FRAME_WORDS, words) {
         let flips = below(random, most + 1);
-        for number in choose(random, usize::from(WORD_BITS), flips) {
+        for number in random.choose(usize::from(WORD_BITS), flips) {
             let (symbol, bit) = bit_place(word / 32, word % 32, number);
             symbols[symbol] ^= bit;
         }
     }
-    for pilot in choose(random, PILOT_COUNT, wrong_pilots) {
+    for pilot in random.choose(PILOT_COUNT, wrong_pilots) {
         symbols[ROW_SYMBOLS * pilot] ^= 1 + random.below(255) as u8;
     }
     let mut flags = [0; FRAME_WORDS];
@@ -140,7 +119,7 @@ fn capture(number: u64, pool: &Pool) -> Vec<u8> {
     };
     let asked = if random.below(16) == 0 {
         let any = random.next_u64() as u32 | 1 << 20;
-        pick(random, &[1_000_001, 1 << 31, u32::MAX, any])
+        random.pick(&[1_000_001, 1 << 31, u32::MAX, any])
     } else {
         count
     };
@@ -157,7 +136,7 @@ fn capture(number: u64, pool: &Pool) -> Vec<u8> {
     let allowed = match random.below(16) {
         0 => u32::MAX,
         1..=5 => small,
-        _ => pick(random, &near),
+        _ => random.pick(&near),
     };
     records[0] = order_record(Order {
         start,
@@ -178,22 +157,19 @@ fn capture(number: u64, pool: &Pool) -> Vec<u8> {
 /// Often where numbers run round or change their sign.
 fn random_start(random: &mut Xorshift) -> u32 {
     let any = random.next_u64() as u32;
-    let near = pick(random, &[0, 1 << 31, u32::MAX, any]);
+    let near = random.pick(&[0, 1 << 31, u32::MAX, any]);
     near.wrapping_add(random.below(9) as u32).wrapping_sub(4)
 }
 
 /// Random bytes, but often with a lawful length first: else nearly all would stop by 7.
 fn noise(random: &mut Xorshift) -> Vec<u8> {
-    let most = pick(random, &[8, 40, 3 * FRAME_RECORD]);
+    let most = random.pick(&[8, 40, 3 * FRAME_RECORD]);
     let length = below(random, most);
-    let mut bytes = random_bytes(random, length);
-    let lawful = pick(random, &[ORDER_RECORD, FRAME_RECORD]);
+    let mut bytes = random.bytes(length);
+    let lawful = random.pick(&[ORDER_RECORD, FRAME_RECORD]);
     let mut first = ((lawful - LENGTH_BYTES) as u32).to_be_bytes().to_vec();
     first.extend([random.below(3) as u8, random.below(3) as u8]);
-    let kept = pick(
-        random,
-        &[0, LENGTH_BYTES, VERSION_PLACE + 1, KIND_PLACE + 1],
-    );
+    let kept = random.pick(&[0, LENGTH_BYTES, VERSION_PLACE + 1, KIND_PLACE + 1]);
     for (byte, first) in bytes.iter_mut().zip(first).take(kept) {
         *byte = first;
     }
@@ -223,7 +199,7 @@ fn disturb(random: &mut Xorshift, pool: &Pool, start: u32, records: &mut Records
         (0, [_, ..]) => {
             let half = 1 << 31;
             let gaps = [1, half - 1, half, 999_999, 1_000_000, 1_000_001];
-            let gap = pick(random, &gaps);
+            let gap = random.pick(&gaps);
             for &place in &frames[chosen..] {
                 let number = number_of(&records[place]).wrapping_add(gap);
                 put_number(&mut records[place], number);
@@ -243,7 +219,7 @@ fn disturb(random: &mut Xorshift, pool: &Pool, start: u32, records: &mut Records
             }
         }
         (2, [_, _, ..]) => {
-            let pair = choose(random, frames.len(), 2);
+            let pair = random.choose(frames.len(), 2);
             records.swap(frames[pair[0]], frames[pair[1]]);
         }
         (3, _) if room => {
@@ -293,7 +269,7 @@ fn disturb(random: &mut Xorshift, pool: &Pool, start: u32, records: &mut Records
                     allowed: 0,
                 }),
                 2 => frame_record(start, locked),
-                _ => random_bytes(random, length),
+                _ => random.bytes(length),
             };
             records.push(trailing[..length].to_vec());
         }
@@ -306,11 +282,11 @@ fn spoil_head(random: &mut Xorshift, record: &mut [u8], which: u64) {
     let any = random.next_u64();
     match which {
         7 if record.len() > VERSION_PLACE => {
-            record[VERSION_PLACE] = pick(random, &[0, 2, 0x81, 0xFF, any as u8]);
+            record[VERSION_PLACE] = random.pick(&[0, 2, 0x81, 0xFF, any as u8]);
         }
         8 if record.len() > KIND_PLACE => {
             let other = record[KIND_PLACE] ^ 1;
-            record[KIND_PLACE] = pick(random, &[other, other, 2, 0xFF, any as u8]);
+            record[KIND_PLACE] = random.pick(&[other, other, 2, 0xFF, any as u8]);
         }
         9 if record.len() >= LENGTH_BYTES => {
             let right = u32::from_be_bytes(record[..LENGTH_BYTES].try_into().expect("four bytes"));
@@ -326,7 +302,7 @@ fn spoil_head(random: &mut Xorshift, record: &mut [u8], which: u64) {
                 u32::MAX,
                 any as u32,
             ];
-            record[..LENGTH_BYTES].copy_from_slice(&pick(random, &lengths).to_be_bytes());
+            record[..LENGTH_BYTES].copy_from_slice(&random.pick(&lengths).to_be_bytes());
         }
         _ => (),
     }

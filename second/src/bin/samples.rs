@@ -4,7 +4,7 @@
 //! stops the run, a program that skips it and one that takes it would, as far as can be, each print
 //! another report.
 
-use second::capture::{frame_record, order_record, Order, FRAME_RECORD, LENGTH_BYTES};
+use second::capture::{frame_record, order_record, Order, FRAME_RECORD, KIND_PLACE, VERSION_PLACE};
 use second::lanes::{LANES_BYTES, STORE_BYTES};
 use second::run::Run;
 use second::send::send;
@@ -16,10 +16,6 @@ use std::path::Path;
 use std::process::ExitCode;
 
 const SEED: u64 = 0x0014_6150_0006_0011;
-
-/// Where version and kind stand in a record.
-const VERSION_PLACE: usize = LENGTH_BYTES;
-const KIND_PLACE: usize = LENGTH_BYTES + 1;
 
 /// No word with one flip, with two, with three.
 const NO_FLIPS: [usize; 3] = [0; 3];

@@ -1,0 +1,157 @@
+// A whole run lent by a host: the record after record of a capture, the verdict and the report.
+ghost use mathlib.Core.Path.{_≡_};
+ghost use lib.ListN.{length};
+ghost use Rattle.bits.specs.Bits.{copied};
+ghost use Rattle.account.specs.Account.{verdictNumber};
+ghost use Rattle.bench.specs.Run.{begun, stopped, verdictOf};
+ghost use Rattle.bench.specs.Report.{written, writtenBytes};
+ghost use Rattle.adderbloom.specs.Run.{phaseNumber, phaseOf, runOf, kept, Steps};
+
+// A run as a host keeps it: the phase by its number, the order's figures and the account.
+#[repr(C)]
+pub struct Run {
+    pub phase: u32,
+    pub asked: u32,
+    pub allowed: u32,
+    pub account: account::Account,
+}
+
+// A step's answer: its number, and the run.
+pub struct Answer {
+    pub refusal: u32,
+    pub run: Run,
+}
+
+// The phase's number.
+fn phase_number(p: bench::Phase) -> u32
+    ensures { λ r. ⌜ r ≡ phaseNumber p ⌝ }
+{
+    match p {
+        bench::Phase::Unordered => 0,
+        bench::Phase::Going => 1,
+        bench::Phase::Stopped => 2,
+    }
+}
+
+// The phase by its number: any number above 1 says stopped.
+fn phase_of(n: u32) -> bench::Phase
+    ensures { λ r. ⌜ r ≡ phaseOf n ⌝ }
+{
+    if n == 0 {
+        return bench::Phase::Unordered;
+    }
+    if n == 1 {
+        return bench::Phase::Going;
+    }
+    bench::Phase::Stopped
+}
+
+// The run that a host keeps.
+fn run_of(r: Run) -> bench::Run
+    ensures { λ b. ⌜ b ≡ runOf r ⌝ }
+{
+    let a = r.account;
+    let phase = phase_of(r.phase);
+    bench::Run {
+        phase,
+        asked: r.asked,
+        allowed: r.allowed,
+        account: a,
+    }
+}
+
+// A run as a host keeps it.
+fn kept(b: bench::Run) -> Run
+    ensures { λ r. ⌜ r ≡ kept b ⌝ }
+{
+    let a = b.account;
+    let p = b.phase;
+    let phase = phase_number(p);
+    Run {
+        phase,
+        asked: b.asked,
+        allowed: b.allowed,
+        account: a,
+    }
+}
+
+// The run before its first record.
+fn opened() -> Run
+    ensures { λ r. ⌜ r ≡ kept begun ⌝ }
+{
+    kept(bench::begun())
+}
+
+// The run stopped.
+fn stopped(r: Run) -> Run
+    ensures { λ s. ⌜ s ≡ kept (stopped (runOf r)) ⌝ }
+{
+    kept(bench::stopped(run_of(r)))
+}
+
+// A store over a lent one.
+fn put_store(from: &[u8; 2880], to: &mut [u8])
+    ensures { λ _. ⌜ (now (to .exit) ≡ copied (now (from .entry)) (now (to .entry))) × (length (now (from .entry)) ≡ 2880) ⌝ }
+{
+    bits::copy(from, to);
+}
+
+// One record's bytes, by value.
+fn stepped(r: Run, store: &mut [u8], piece: &[u8]) -> Answer
+    ensures { λ s. ⌜ Steps r (now (store .entry)) (now (piece .entry)) (s .refusal) (s .run) (now (store .exit)) ⌝ }
+{
+    if store.len() != 2880 {
+        return Answer { refusal: 2, run: r };
+    }
+    let mut own = [0u8; 2880];
+    bits::copy(store, &mut own);
+    let b = bench::step(run_of(r), &mut own, piece);
+    put_store(&own, store);
+    let after = kept(b);
+    Answer {
+        refusal: 0,
+        run: after,
+    }
+}
+
+// A run before its first record, in place of the one lent.
+#[no_mangle]
+pub extern "C" fn lr800_run_open(r: &mut Run)
+    ensures { λ _. ⌜ now (r .exit) ≡ kept begun ⌝ }
+{
+    *r = opened();
+}
+
+// One record's bytes, and what they change of the run and the store lent beside it. Refused: 2 another length of the store.
+#[no_mangle]
+pub extern "C" fn lr800_run_step(r: &mut Run, store: &mut [u8], piece: &[u8]) -> u32
+    ensures { λ n. ⌜ Steps (now (r .entry)) (now (store .entry)) (now (piece .entry)) n (now (r .exit)) (now (store .exit)) ⌝ }
+{
+    let s = stepped(*r, store, piece);
+    *r = s.run;
+    s.refusal
+}
+
+// The run stopped, as by a read that failed: its figures and its account stay.
+#[no_mangle]
+pub extern "C" fn lr800_run_stop(r: &mut Run)
+    ensures { λ _. ⌜ now (r .exit) ≡ kept (stopped (runOf (now (r .entry)))) ⌝ }
+{
+    *r = stopped(*r);
+}
+
+// The verdict of a run: 0 not measured, 1 PASS, 2 FAIL.
+#[no_mangle]
+pub extern "C" fn lr800_run_verdict(r: Run) -> u32
+    ensures { λ n. ⌜ n ≡ verdictNumber (verdictOf (runOf r)) ⌝ }
+{
+    account::verdict_number(bench::verdict_of(run_of(r)))
+}
+
+// The report of a run, at the beginning of a lent buffer; the answer is how many bytes it takes. A buffer too small for it is not touched, and the answer is 0.
+#[no_mangle]
+pub extern "C" fn lr800_run_report(r: Run, text: &mut [u8]) -> usize
+    ensures { λ n. ⌜ (n ≡ writtenBytes (runOf r) (now (text .entry))) × (now (text .exit) ≡ written (runOf r) (now (text .entry))) ⌝ }
+{
+    bench::report(run_of(r), text)
+}
