@@ -1,4 +1,5 @@
 pub mod Calls
 pub mod Lent
 pub mod Structs
+pub mod Host
 pub mod Determined

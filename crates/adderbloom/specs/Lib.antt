@@ -1,3 +1,4 @@
 pub mod Entry
 pub mod Record
 pub mod Run
+pub mod Host

@@ -1,6 +1,7 @@
 pub mod Frames
 pub mod Steps
 pub mod Walk
+pub mod Stores
 pub mod Left
 pub mod Decimal
 pub mod Writing

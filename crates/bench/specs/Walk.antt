@@ -8,7 +8,7 @@ use lib.Dec.{eqb}
 use lib.ListN.{length, take, drop}
 use Rattle.capture.specs.Capture.{readAt, nextOf, wanted}
 use Rattle.bench.specs.declared.Run.{Run}
-use Rattle.bench.specs.Run.{State, fresh, stopped, cameAs, stepped}
+use Rattle.bench.specs.Run.{State, begun, fresh, stopped, cameAs, stepped}
 
 -- the walk over the capture s from place i on, over at most n records
 unfoldable pub walked : ℕ → List ℕ → ℕ → State → State
@@ -40,3 +40,11 @@ followed s failed = cond failed (stopped (examined s .run)) (examined s .run)
 -- to step through the pieces is to walk over the whole
 abbrev pub PiecesAlike : Type 0
 PiecesAlike = (s : List ℕ) → through fresh (pieces s) ≡ examined s
+
+-- whatever the store holds before the first order, the run comes to the same
+abbrev pub AnyStore : Type 0
+AnyStore = (s store : List ℕ) → through (record { run = begun; store = store }) (pieces s) .run ≡ examined s .run
+
+-- a whole store stays whole
+abbrev pub StoreStays : Type 0
+StoreStays = (st : State) (piece : List ℕ) → length (st .store) ≡ 2880 → length (stepped st piece .store) ≡ 2880

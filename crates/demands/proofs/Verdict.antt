@@ -2,7 +2,7 @@
 -- Assumes nothing.
 use mathlib.Core.Path.{_≡_, refl, sym, ap, _∙_, subst}
 use mathlib.Core.Bool.{Bool, true, false, cond, not, false≢true}
-use mathlib.Core.Logic.{_≢_, _⊎_, inl, inr}
+use mathlib.Core.Logic.{_≢_, _⊎_, inl, inr, _↔_}
 use mathlib.Core.List.{List, [], _∷_, _++_, append-assoc, append-nil}
 use Prim.Native.Nat.{ℕ, zero, suc, _+_, _*_, _^_, _≤_, _<_}
 use Prim.Native.String.{String}
@@ -58,17 +58,47 @@ module _ (s : List ℕ) (m : Measured s) where
   unfolding verdictOf verdict goesOn
   given = ap verdictOf (measured-run s m) ∙ ap (λ (b : Bool). cond b (cond (leb (flaggedWords m) (m .allowed)) Pass Fail) NotMeasured) (sym (measured-by (m .asked) (measuredRun m .account) numbers))
 
+-- so each verdict is given exactly where it is due
+pub passes : (s : List ℕ) → AllBytes s → (verdictOf (examined s .run) ≡ Pass) ↔ ((m : Measured s) × (flaggedWords m ≤ m .allowed))
+unfolding verdictNumber
+passes s B = (
+  λ e. let T = told s B Pass e (λ (z : _≡_ {A = ℕ} 1 0). omega arith) in (T .0, passed (flaggedWords (T .0)) (T .0 .allowed) (T .1)),
+  λ (m, h). given s m ∙ ap (λ (b : Bool). cond b Pass Fail) (le-leb (flaggedWords m) (m .allowed) h),
+)
+
+pub fails : (s : List ℕ) → AllBytes s → (verdictOf (examined s .run) ≡ Fail) ↔ ((m : Measured s) × (m .allowed < flaggedWords m))
+unfolding verdictNumber
+fails s B = (
+  λ e. let T = told s B Fail e (λ (z : _≡_ {A = ℕ} 2 0). omega arith) in (T .0, failed (flaggedWords (T .0)) (T .0 .allowed) (T .1)),
+  λ (m, h). given s m ∙ ap (λ (b : Bool). cond b Pass Fail) (lt-leb (flaggedWords m) (m .allowed) h),
+)
+
+-- neither PASS nor FAIL
+one-or-other : (b : Bool) → cond b Pass Fail ≡ NotMeasured → ⊥
+unfolding verdictNumber
+one-or-other true e = let z : _≡_ {A = ℕ} 1 0 = ap verdictNumber e in absurd (omega arith)
+one-or-other false e = let z : _≡_ {A = ℕ} 2 0 = ap verdictNumber e in absurd (omega arith)
+
+pub unmeasured : (s : List ℕ) → AllBytes s → (verdictOf (examined s .run) ≡ NotMeasured) ↔ (Measured s → ⊥)
+unfolding verdictNumber
+unmeasured s B = (λ e m. one-or-other (leb (flaggedWords m) (m .allowed)) (sym (given s m) ∙ e), λ n. go n (verdictOf (examined s .run)) refl)
+  where
+    go : (Measured s → ⊥) → (v : Verdict) → verdictOf (examined s .run) ≡ v → verdictOf (examined s .run) ≡ NotMeasured
+    go n NotMeasured e = e
+    go n Pass e = absurd (n (told s B Pass e (λ (z : _≡_ {A = ℕ} 1 0). omega arith) .0))
+    go n Fail e = absurd (n (told s B Fail e (λ (z : _≡_ {A = ℕ} 2 0). omega arith) .0))
+
 -- ---- record by record
 
 -- states that follow one another by steps come to what stepping through comes to
-stepwise : (ps : List (List ℕ)) (states : ℕ → State) → ((k : ℕ) → k < length ps → states (suc k) ≡ stepped (states k) (getD ps k [])) → through (states 0) ps ≡ states (length ps)
+pub stepwise : (ps : List (List ℕ)) (states : ℕ → State) → ((k : ℕ) → k < length ps → states (suc k) ≡ stepped (states k) (getD ps k [])) → through (states 0) ps ≡ states (length ps)
 unfolding through
 stepwise [] states call = refl
 stepwise (p ∷ ps) states call =
     ap (λ (st : State). through st ps) (sym (call 0 (omega arith))) ∙ stepwise ps (λ k. states (suc k)) (λ k l. call (suc k) (omega arith))
 
 -- the states on the way
-on-the-way : (ps : List (List ℕ)) (st : State) (k : ℕ) → k < length ps → through st (take (suc k) ps) ≡ stepped (through st (take k ps)) (getD ps k [])
+pub on-the-way : (ps : List (List ℕ)) (st : State) (k : ℕ) → k < length ps → through st (take (suc k) ps) ≡ stepped (through st (take k ps)) (getD ps k [])
 unfolding through
 on-the-way [] st k h = absurd (omega arith)
 on-the-way (p ∷ ps) st zero h = refl
@@ -125,37 +155,21 @@ module _ (s report : List ℕ) (R : Examination s report) where
     stands : verdictOf (examined s .run) ≡ v → Line line report
     stands e = subst (Line line) (sym report-is) (line-stands (examined s .run) line v says e)
 
+    -- what a verdict means, it means in the report
+    carried : {X : Type 0} → (verdictOf (examined s .run) ≡ v) ↔ X → Line line report ↔ X
+    carried means = (λ L. means .0 (said L), λ x. stands (means .1 x))
+
 pub pass-exactly : PassExactly
-unfolding words tabulate verdictNumber
-pass-exactly s report B R = (
-  λ L. let T = told s B Pass (said s report R "verdict PASS" Pass refl L) (λ (z : _≡_ {A = ℕ} 1 0). omega arith) in (T .0, passed (flaggedWords (T .0)) (T .0 .allowed) (T .1)),
-  λ (m, h). stands s report R "verdict PASS" Pass refl (given s m ∙ ap (λ (b : Bool). cond b Pass Fail) (le-leb (flaggedWords m) (m .allowed) h)),
-)
+unfolding words tabulate
+pass-exactly s report B R = carried s report R "verdict PASS" Pass refl (passes s B)
 
 pub fail-exactly : FailExactly
-unfolding words tabulate verdictNumber
-fail-exactly s report B R = (
-  λ L. let T = told s B Fail (said s report R "verdict FAIL" Fail refl L) (λ (z : _≡_ {A = ℕ} 2 0). omega arith) in (T .0, failed (flaggedWords (T .0)) (T .0 .allowed) (T .1)),
-  λ (m, h). stands s report R "verdict FAIL" Fail refl (given s m ∙ ap (λ (b : Bool). cond b Pass Fail) (lt-leb (flaggedWords m) (m .allowed) h)),
-)
-
--- neither PASS nor FAIL
-one-or-other : (b : Bool) → cond b Pass Fail ≡ NotMeasured → ⊥
-unfolding verdictNumber
-one-or-other true e = let z : _≡_ {A = ℕ} 1 0 = ap verdictNumber e in absurd (omega arith)
-one-or-other false e = let z : _≡_ {A = ℕ} 2 0 = ap verdictNumber e in absurd (omega arith)
+unfolding words tabulate
+fail-exactly s report B R = carried s report R "verdict FAIL" Fail refl (fails s B)
 
 pub not-measured-exactly : NotMeasuredExactly
-unfolding words tabulate verdictNumber
-not-measured-exactly s report B R = (
-  λ L m. one-or-other (leb (flaggedWords m) (m .allowed)) (sym (given s m) ∙ said s report R "verdict NOT MEASURED" NotMeasured refl L),
-  λ n. go n (verdictOf (examined s .run)) refl,
-)
-  where
-    go : (Measured s → ⊥) → (v : Verdict) → verdictOf (examined s .run) ≡ v → Line "verdict NOT MEASURED" report
-    go n NotMeasured e = stands s report R "verdict NOT MEASURED" NotMeasured refl e
-    go n Pass e = absurd (n (told s B Pass e (λ (z : _≡_ {A = ℕ} 1 0). omega arith) .0))
-    go n Fail e = absurd (n (told s B Fail e (λ (z : _≡_ {A = ℕ} 2 0). omega arith) .0))
+unfolding words tabulate
+not-measured-exactly s report B R = carried s report R "verdict NOT MEASURED" NotMeasured refl (unmeasured s B)
 
 -- a run that was stopped
 stopped-verdict : (r : Run) → verdictOf (stopped r) ≡ NotMeasured
