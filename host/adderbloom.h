@@ -1,22 +1,28 @@
 /* The sending and receiving logic of the 800LR coherent line (OIF-800LR-01.0), the reader of captures, the account of a run and its verdict, for a host program
- * in C. Link with libadderbloom.a. Nothing here allocates, keeps state of its own, or calls anything: what is kept between calls is the caller's.
+ * in C. Link with libadderbloom.a: x86-64, System V calling convention.
  *
- * Every call ends, and any bytes, lengths and stored numbers are lawful. Where a call answers a number, 0 is done; any other is the refusal's, the lowest of those
- * that apply, and a refused call changes nothing:
- *    1  input is not LR800_LANES bytes long (sending), LR800_FRAME (receiving)
- *    2  a store is not LR800_STORE bytes long
- *    3  output is not LR800_FRAME bytes long (sending), LR800_LANES (receiving)
- *    4  there are not LR800_FLAGS flag bytes
- *    5  no lock: 25 or more of the 96 pilot bytes differ
- *    6  a record is cut short
- *    7  a record's length is not 14 or 6,150
- *    8  its version is not 1
- *    9  its kind does not match its length
- *   10  a frame's number is late: 2^31 or more after the expected one, round 2^32
- *   11  after the entry, accepted or missing frames would stand above 1,000,000, or some tally above 384,000,000
- *   12  a frame's tallies do not add up to 384: some of its flag bytes are above 3
+ * Every call ends, and any bytes, lengths and stored numbers are lawful. Nothing allocates or keeps state of its own: what is kept between calls is the caller's,
+ * and calls that share no memory may run at once. A call takes up to 70 kB of stack, and of the C library memcpy and memset.
  *
- * Two things no contract can speak of: buffers, accounts or runs that overlap, and a null pointer, unless it comes with a length of 0. */
+ * Refusals have numbers. Where a call answers one, 0 is done; any other is the lowest of those that apply, and a refused call changes nothing.
+ *   by lr800_send, lr800_receive and, of them, 2 by lr800_run_step and 4 by lr800_account_enter
+ *     1  input is not LR800_LANES bytes long (sending), LR800_FRAME (receiving)
+ *     2  the store is not LR800_STORE bytes long
+ *     3  output is not LR800_FRAME bytes long (sending), LR800_LANES (receiving)
+ *     4  there are not LR800_FLAGS flag bytes
+ *     5  no lock: 25 or more of the 96 pilot bytes differ
+ *   by lr800_read, in what it returns
+ *     6  a record is cut short
+ *     7  its length is not 14 or 6,150
+ *     8  its version is not 1
+ *     9  its kind does not match its length
+ *   by lr800_account_enter and, of them, 10 and 11 by lr800_account_lose
+ *    10  the frame's number is late: 2^31 or more after the expected one, round 2^32
+ *    11  after the entry, accepted or missing frames would stand above 1,000,000, or some tally above 384,000,000
+ *    12  the frame's tallies do not add up to 384: some of its flag bytes are above 3
+ *
+ * Two things no contract can speak of: memory lent twice to one call, and a null pointer, unless it comes with a length of 0. Padding within a struct is not spoken
+ * of either: compare its members, not its bytes. */
 #ifndef ADDERBLOOM_H
 #define ADDERBLOOM_H
 
@@ -42,7 +48,7 @@ uint32_t lr800_send(const uint8_t *input, size_t input_length, uint8_t *store, s
  * Answers 0, 1, 2, 3, 4 or 5. At 0, store, output and flags have been written in full. A frame refused by 5 is lost: it must be entered as a loss
  * (lr800_account_lose), or the account does not know of it.
  * If both stores were fresh at the first frame and every frame was received, each lane comes back 36 blocks (1,440 bits) later, behind zeros. After a frame
- * that was lost or refused, the next 36 blocks of each lane may be wrong. */
+ * that was lost or refused, the next 36 blocks of each lane may be wrong, so the next two frames. */
 uint32_t lr800_receive(const uint8_t *input, size_t input_length, uint8_t *store, size_t store_length, uint8_t *output, size_t output_length,
                        uint8_t *flags, size_t flags_length);
 
@@ -72,7 +78,7 @@ uint32_t lr800_account_lose(lr800_account *account, uint32_t number);
 /* What is said of a run. What is not set says not measured. */
 enum { LR800_NOT_MEASURED = 0, LR800_PASS = 1, LR800_FAIL = 2 };
 
-/* The verdict on the numbers of a run. Pass 0 for stopped only if an order came first and alone, the capture was read to its end, and no record was refused by 6 to 12.
+/* The verdict on the numbers of a run. Give 0 for stopped only if an order came first and alone, the capture was read to its end, and no record was refused by 6 to 12.
  * Only the numbers given are judged: no limit is applied, and nothing is known of late frames.
  *   LR800_NOT_MEASURED  stopped is not 0, or asked is 0, or accepted is not asked, or missing is not 0, or the four tallies do not total 384 times accepted
  *   LR800_PASS          else, if flagged is at most allowed
@@ -102,13 +108,13 @@ typedef struct lr800_record {
 /* What stands at a place of a capture. A place at or beyond the end is the end. */
 lr800_record lr800_read(const uint8_t *capture, size_t capture_length, size_t place);
 
-/* How many bytes of a record to ask for, by those of it that are there: 4, then LR800_ORDER_BYTES or LR800_FRAME_BYTES. A host that reads an input asks for more until
- * it has as many as are wanted, or the input ends, and steps over what it has. */
+/* How many bytes of a record to ask for, by those of it that are there: 4, then LR800_ORDER_BYTES or LR800_FRAME_BYTES by its length, and 4 where that is not lawful.
+ * A host that reads an input asks for more until it has as many as are wanted, or the input ends, and steps over what it has. */
 size_t lr800_wanted(const uint8_t *piece, size_t piece_length);
 
 /* ---- A whole run: the host gives records, and no rule is left to it ---- */
 
-/* Where a run stands. Any phase above LR800_STOPPED is taken for it. */
+/* Where a run stands. Any phase above LR800_STOPPED is taken for it, and is LR800_STOPPED after a step that is done. */
 enum { LR800_UNORDERED = 0, LR800_GOING = 1, LR800_STOPPED = 2 };
 
 /* A run: its phase, the order's figures and the account. Any numbers are lawful. All zero is a run before its first record. */
@@ -125,10 +131,11 @@ void lr800_run_open(lr800_run *run);
 /* One record's bytes, from their beginning; what follows a whole record is not looked at, and no bytes change nothing. The store is the run's own: lend it to every step of
  * the run, and to nothing else; the first order clears it. The first order opens the account; a frame is received and entered, or without lock entered as a
  * loss; a refused record or entry, a second order and a frame before any order stop the run, and nothing else changes. A stopped run changes no more.
- * Answers 0, or 2. Whether the run was stopped is told by its phase. */
+ * Answers 0, or 2. Whether the run was stopped is told by its phase; by which refusal, by lr800_read of the same bytes (6 to 9) and lr800_account_lose on a copy of the
+ * account (10, else 11). */
 uint32_t lr800_run_step(lr800_run *run, uint8_t *store, size_t store_length, const uint8_t *piece, size_t piece_length);
 
-/* Stops a run, as a host does whose input could not be read to its end. Its figures and its account stay. */
+/* Stops a run, as a host must whose input could not be read to its end: a read that fails is no end. Its figures and its account stay. */
 void lr800_run_stop(lr800_run *run);
 
 /* The verdict of a run: LR800_NOT_MEASURED unless it is going on and was measured. */

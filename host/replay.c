@@ -8,7 +8,11 @@
 #include <stdlib.h>
 #include <string.h>
 
-enum { GUARD = 64, GUARD_BYTE = 0xA5 };
+/* none with -DGUARD=0: a buffer is then a block of its own and of its very length, for a checker of memory */
+#ifndef GUARD
+#define GUARD 64
+#endif
+enum { GUARD_BYTE = 0xA5 };
 
 enum { SEND, RECEIVE, ACCOUNT_OPEN, ACCOUNT_ENTER, ACCOUNT_LOSE, VERDICT, READ, WANTED, RUN_OPEN, RUN_STEP, RUN_STOP, RUN_VERDICT, RUN_REPORT, FUNCTIONS,
        READ_KIND = FUNCTIONS, STEP_PHASE, TALLIES };

@@ -1,0 +1,200 @@
+/* A rig in small, to copy from. A stream of frames is sent, damaged on its way, received and entered in an account; then the frames are written down as a
+ * capture, and a whole run is stepped over it. Every answer is looked at: the program ends with 1 at the first that is not what it must be.
+ *   cc example.c -ladderbloom -o example && ./example */
+#include "adderbloom.h"
+#include <inttypes.h>
+#include <stdio.h>
+#include <stdlib.h>
+#include <string.h>
+
+enum {
+    FRAMES = 40, ALLOWED = 20,               /* the order: frames asked, flagged words allowed */
+    LOST = 21,                               /* the frame that will not lock */
+    LANES = 32, LANE_BYTES = LR800_LANES / LANES,
+    BEHIND = 180,                            /* bytes by which a lane comes back later: 36 blocks of 40 bits */
+    PILOTS_APART = 64, NO_LOCK = 25          /* a pilot is the first symbol of each 64; so many wrong ones are no lock */
+};
+static const uint32_t START = 4294967280u;   /* the first frame's number; the numbers run round at 2^32 within this stream */
+
+static uint8_t sent[FRAMES][LR800_FRAME];
+static uint8_t capture[LR800_ORDER_BYTES + FRAMES * LR800_FRAME_BYTES];
+
+static void must(int holds, const char *what) {
+    if (holds) return;
+    fprintf(stderr, "example: %s\n", what);
+    exit(1);
+}
+
+/* seeded, so that every run of the program is the same (xorshift) */
+static uint32_t random_below(uint32_t limit) {
+    static uint32_t state = 800;
+    state ^= state << 13;
+    state ^= state >> 17;
+    state ^= state << 5;
+    return state % limit;
+}
+
+/* the test pattern: a byte of a lane, counted over the whole stream; before the stream there are the zeros of the fresh stores */
+static uint8_t pattern(int lane, int at) {
+    return (uint8_t)(at < 0 ? 0 : 7 * at + at / 256 + 31 * lane + 1);
+}
+
+static void send_stream(void) {
+    static uint8_t store[LR800_STORE]; /* zero, so fresh */
+    static uint8_t lanes[LR800_LANES];
+    for (int f = 0; f < FRAMES; f++) {
+        for (int i = 0; i < LR800_LANES; i++) lanes[i] = pattern(i / LANE_BYTES, f * LANE_BYTES + i % LANE_BYTES);
+        must(lr800_send(lanes, sizeof lanes, store, sizeof store, sent[f], sizeof sent[f]) == 0, "a frame was not sent");
+    }
+}
+
+/* Flips one of the 126 bits of word 32 k + p: lane p's part of the 504 payload symbols that carry word k of all lanes. */
+static void flip(uint8_t *frame, int word, int bit) {
+    int k = word / LANES, p = word % LANES;
+    int l = 63 * (p / 4) + bit / 2;
+    int t = (p + 4 - (2 * l + l / 2 % 2) % 4) % 4; /* the tributary, XI to YQ, that takes lane p here */
+    int m = 504 * k + l;
+    frame[64 * (m / 63) + 1 + m % 63] ^= (uint8_t)(1 << (6 - 2 * t + bit % 2));
+}
+
+/* Damages so many words that are whole as yet, each by so many flips. */
+static void damage(uint8_t *frame, uint8_t *flips, int words, int count) {
+    while (words > 0) {
+        int word = (int)random_below(LR800_FLAGS), first = (int)random_below(126);
+        if (flips[word]) continue;
+        for (int n = 0; n < count; n++) flip(frame, word, (first + 25 * n) % 126); /* different bits: 25 and 126 have no common divisor */
+        flips[word] = (uint8_t)count;
+        words--;
+    }
+}
+
+/* The line: every frame has words with one flip and with two, every tenth some with more, and one frame loses its pilots. */
+static void damage_frame(uint8_t *frame, uint8_t *flips, int f) {
+    memset(flips, 0, LR800_FLAGS);
+    damage(frame, flips, 20, 1);
+    damage(frame, flips, 6, 2);
+    if (f % 10 == 5) {
+        damage(frame, flips, 2, 3);
+        damage(frame, flips, 1, 4);
+        damage(frame, flips, 1, 5);
+    }
+    if (f == LOST)
+        for (int n = 0; n < NO_LOCK; n++) frame[PILOTS_APART * n] ^= 0xFF;
+}
+
+/* Whether a frame's flags say what was done to its words, and whether all its words are whole again. Four flips and more may lie within two bits of another code
+ * word: such a word comes out wrong and is not flagged, so that nothing is asked of its flag. */
+static int all_mended(const uint8_t *flips, const uint8_t *flags) {
+    int mended = 1;
+    for (int word = 0; word < LR800_FLAGS; word++) {
+        must(flips[word] > 3 || flags[word] == flips[word], "a flag does not say what was done to its word");
+        if (flips[word] > 2) mended = 0;
+    }
+    return mended;
+}
+
+static void print_verdict(uint32_t verdict) {
+    static const char *const names[] = {"NOT MEASURED", "PASS", "FAIL"};
+    must(verdict <= LR800_FAIL, "no verdict at all");
+    printf("verdict %s\n", names[verdict]);
+}
+
+/* The host receives and enters each frame by itself, and so keeps the rules by itself. */
+static void receive_stream(void) {
+    static uint8_t store[LR800_STORE]; /* the receiver's own */
+    static uint8_t frame[LR800_FRAME], lanes[LR800_LANES], flags[LR800_FLAGS], flips[LR800_FLAGS];
+    lr800_account account;
+    int since = 2, due = 0; /* frames since one that was lost or not mended; before the first there is none to spoil anything */
+    uint32_t stopped = 0, entered;
+    lr800_account_open(&account, START);
+    for (int f = 0; f < FRAMES && !stopped; f++) {
+        uint32_t number = START + (uint32_t)f, answer;
+        memcpy(frame, sent[f], sizeof frame);
+        damage_frame(frame, flips, f);
+        answer = lr800_receive(frame, sizeof frame, store, sizeof store, lanes, sizeof lanes, flags, sizeof flags);
+        must(answer == (f == LOST ? 5 : 0), "a frame was received that does not lock, or refused although it does");
+        if (answer == 5) {
+            entered = lr800_account_lose(&account, number); /* else the account would not know of it */
+            since = 0;
+        } else {
+            entered = lr800_account_enter(&account, number, flags, sizeof flags);
+            since = all_mended(flips, flags) ? since + 1 : 0;
+        }
+        if (entered != 0) stopped = 1; /* a refused entry ends the run, and its verdict is then not measured */
+        /* what comes back has been on its way for up to 36 blocks, so in this frame and the two before it */
+        if (since < 3) continue;
+        for (int i = 0; i < LR800_LANES; i++)
+            must(lanes[i] == pattern(i / LANE_BYTES, f * LANE_BYTES + i % LANE_BYTES - BEHIND), "a lane came back other than it was sent");
+        due++;
+    }
+    printf("the stream, damaged on its way:\nlanes came back as sent, 36 blocks later, in %d frames\n", due);
+    printf("accepted %" PRIu64 "\nmissing %" PRIu64 "\n", account.accepted, account.missing);
+    printf("clean %" PRIu64 "\none %" PRIu64 "\ntwo %" PRIu64 "\nflagged %" PRIu64 "\n", account.clean, account.one, account.two, account.flagged);
+    print_verdict(lr800_verdict(FRAMES, ALLOWED, account.accepted, account.missing, account.clean, account.one, account.two, account.flagged, stopped));
+}
+
+/* four bytes, highest first */
+static uint8_t *put_number(uint8_t *to, uint32_t number) {
+    for (int shift = 24; shift >= 0; shift -= 8) *to++ = (uint8_t)(number >> shift);
+    return to;
+}
+
+/* A record's length counts what follows it; then come version 1 and the kind, 0 an order and 1 a frame. */
+static uint8_t *put_head(uint8_t *to, uint32_t length, uint8_t kind) {
+    to = put_number(to, length);
+    *to++ = 1;
+    *to++ = kind;
+    return to;
+}
+
+/* The order, and the frames as sent, but for one that is left out; FRAMES leaves out none. Returns the capture's length. */
+static size_t write_capture(int left_out) {
+    uint8_t *to = put_head(capture, LR800_ORDER_BYTES - 4, 0);
+    to = put_number(put_number(put_number(to, START), FRAMES), ALLOWED);
+    for (int f = 0; f < FRAMES; f++) {
+        if (f == left_out) continue;
+        to = put_number(put_head(to, LR800_FRAME_BYTES - 4, 1), START + (uint32_t)f);
+        memcpy(to, sent[f], LR800_FRAME);
+        to += LR800_FRAME;
+    }
+    return (size_t)(to - capture);
+}
+
+/* Stands for read() or fread(): the next bytes of the capture, at most so many; none at its end. */
+static size_t read_capture(size_t length, size_t *place, uint8_t *to, size_t count) {
+    if (count > length - *place) count = length - *place;
+    memcpy(to, capture + *place, count);
+    *place += count;
+    return count;
+}
+
+/* A whole run: no rule is left to the host but to give every record in its turn. */
+static void run_capture(const char *what, size_t length, uint32_t verdict) {
+    static uint8_t store[LR800_STORE], piece[LR800_FRAME_BYTES], text[LR800_REPORT];
+    size_t place = 0, have, got, written;
+    lr800_run run;
+    lr800_run_open(&run);
+    while (run.phase < LR800_STOPPED) {
+        have = 0;
+        do { /* a read that fails is no end of the input: it would call for lr800_run_stop(&run) here */
+            got = read_capture(length, &place, piece + have, lr800_wanted(piece, have) - have);
+            have += got;
+        } while (got > 0 && have < lr800_wanted(piece, have));
+        if (have == 0) break; /* the end, between two records; an end within one is told by the step */
+        must(lr800_run_step(&run, store, sizeof store, piece, have) == 0, "the store has another length");
+    }
+    written = lr800_run_report(run, text, sizeof text);
+    must(written > 0, "there was no room for the report");
+    must(lr800_run_verdict(run) == verdict, "another verdict");
+    printf("\n%s\n", what);
+    must(fwrite(text, 1, written, stdout) == written, "the report was not written"); /* no 00 stands behind it */
+}
+
+int main(void) {
+    send_stream();
+    receive_stream();
+    run_capture("the capture of all frames as sent:", write_capture(FRAMES), LR800_PASS);
+    run_capture("the same without one of them:", write_capture(LOST), LR800_NOT_MEASURED);
+    must(fflush(stdout) == 0, "not all of it was written");
+    return 0;
+}

@@ -1,0 +1,655 @@
+/* A target for libFuzzer: what must hold of any input, asked of every function of the archive. Built and run by `host/stress fuzz`.
+ *
+ * An input is CONTROL bytes, from which lengths, places and stored numbers are taken, and then a capture, which also fills the buffers. The archive has no coverage
+ * counters of its own: what it answers is told to libFuzzer by `mark`, and the mutator at the end knows what a record is.
+ *
+ * Buffers stand between two pages that cannot be touched, at the one or at the other, so that a read beyond them ends the program, too. With -DEXACT every
+ * buffer is a block of its own and of its very length, for valgrind. With -DALONE the program runs over the files named, without libFuzzer. */
+#define _DEFAULT_SOURCE
+#include "adderbloom.h"
+#include <inttypes.h>
+#include <stdio.h>
+#include <stdlib.h>
+#include <string.h>
+#include <sys/mman.h>
+
+enum { NUMBERS = 16, CONTROL = 8 * NUMBERS, PAGE = 4096, GUARD = 0xA5, PILOTS = 96, NO_LOCK = 25, LONGEST = 60000 };
+
+/* the control numbers: the first byte by byte, the others whole; the account's seven stand in its own order */
+enum { CHOICES, PLACE, ACCOUNT, FIGURES = ACCOUNT + 7, GOT, ROOM, STOPPED };
+enum { SIDE, INPUT_LENGTH, STORE_LENGTH, OUTPUT_LENGTH, FLAGS_LENGTH, STORE_FROM, RAW_FLAGS };
+
+#define MUST(holds) ((holds) ? (void)0 : broken(#holds, __LINE__))
+
+static void broken(const char *what, int line) {
+    fprintf(stderr, "fuzz.c:%d: does not hold: %s\n", line, what);
+    abort();
+}
+
+/* ---- What libFuzzer is told ---- */
+
+#ifndef ALONE
+__attribute__((section("__libfuzzer_extra_counters")))
+#endif
+static uint8_t marks[1024];
+
+enum { READ_AS, RECEIVED, SENT, ENTERED, LOST, STEPPED, JUDGED, STEPS, PILOTS_WRONG, WORDS_ONE, WORDS_TWO, WORDS_FLAGGED, REPORTED };
+
+static void mark(unsigned what, uint64_t value) {
+    marks[(64 * what + (value < 63 ? value : 63)) % sizeof marks] = 1;
+}
+
+static uint64_t size_of_number(uint64_t n) {
+    uint64_t bits = 0;
+    while (n) bits++, n >>= 1;
+    return bits;
+}
+
+/* ---- Buffers ---- */
+
+typedef struct {
+    uint8_t *room, *lent;
+    size_t size, length;
+} fence;
+
+static int at_the_end; /* which side of its room a buffer stands at */
+
+/* A buffer of so many bytes, each of them the filler. */
+static uint8_t *lend(fence *f, size_t length, uint8_t filler) {
+#ifdef EXACT
+    free(f->lent);
+    f->lent = length ? malloc(length) : NULL;
+    MUST(f->lent || !length);
+#else
+    if (!f->room) {
+        f->size = (LONGEST + PAGE - 1) / PAGE * PAGE;
+        f->room = mmap(NULL, f->size + 2 * PAGE, PROT_READ | PROT_WRITE, MAP_PRIVATE | MAP_ANONYMOUS, -1, 0);
+        MUST(f->room != MAP_FAILED);
+        MUST(mprotect(f->room, PAGE, PROT_NONE) == 0 && mprotect(f->room + PAGE + f->size, PAGE, PROT_NONE) == 0);
+        f->room += PAGE;
+    }
+    MUST(length <= f->size);
+    f->lent = at_the_end ? f->room + f->size - length : f->room;
+    memset(at_the_end ? f->lent - PAGE / 4 : f->lent + length, GUARD, PAGE / 4);
+#endif
+    f->length = length;
+    if (length) memset(f->lent, filler, length);
+    return length ? f->lent : NULL; /* no bytes may come as a null pointer */
+}
+
+static uint8_t *lend_filled(fence *f, size_t length, const uint8_t *from, size_t from_length) {
+    uint8_t *to = lend(f, length, 0);
+    size_t n = length < from_length ? length : from_length;
+    if (n) memcpy(to, from, n);
+    return to;
+}
+
+/* no byte beside it was written */
+static void check_fence(const fence *f) {
+#ifdef EXACT
+    (void)f;
+#else
+    const uint8_t *beside = at_the_end ? f->lent - PAGE / 4 : f->lent + f->length;
+    for (size_t i = 0; i < PAGE / 4; i++) MUST(beside[i] == GUARD);
+#endif
+}
+
+static int same_bytes(const uint8_t *a, const uint8_t *b, size_t length) {
+    return length == 0 || memcmp(a, b, length) == 0;
+}
+
+static int all_are(const uint8_t *bytes, size_t length, uint8_t value) {
+    for (size_t i = 0; i < length; i++)
+        if (bytes[i] != value) return 0;
+    return 1;
+}
+
+/* ---- The input ---- */
+
+static const uint8_t *capture;
+static size_t capture_length;
+static uint64_t control[NUMBERS];
+
+static uint8_t choice(unsigned which) {
+    return (uint8_t)(control[CHOICES] >> (56 - 8 * which));
+}
+
+/* mostly the right length, else one that is near it, another buffer's, or any */
+static size_t some_length(unsigned which, size_t right) {
+    static const size_t others[] = {0, 1, LR800_FLAGS, LR800_STORE, LR800_LANES, LR800_FRAME};
+    uint8_t c = choice(which);
+    if (c < 128) return right;
+    if (c < 134) return others[c - 128];
+    if (c < 140) return right + 1;
+    if (c < 146) return right - 1;
+    return (size_t)c * 40;
+}
+
+/* an empty capture is a null pointer, to which C lets nothing be added, not even 0 */
+static const uint8_t *from_place(size_t place) {
+    return place ? capture + place : capture;
+}
+
+static uint32_t four(const uint8_t *b) {
+    return (uint32_t)b[0] << 24 | (uint32_t)b[1] << 16 | (uint32_t)b[2] << 8 | b[3];
+}
+
+/* ---- Sending and receiving ---- */
+
+static uint8_t pilots[PILOTS];
+
+static void learn_pilots(void) {
+    static uint8_t lanes[LR800_LANES], store[LR800_STORE], frame[LR800_FRAME];
+    MUST(lr800_send(lanes, sizeof lanes, store, sizeof store, frame, sizeof frame) == 0);
+    for (int i = 0; i < PILOTS; i++) pilots[i] = frame[64 * i];
+}
+
+static uint32_t first_wrong(const size_t *lengths, const size_t *right, uint32_t count) {
+    for (uint32_t i = 0; i < count; i++)
+        if (lengths[i] != right[i]) return i + 1;
+    return 0;
+}
+
+static void check_receive(const uint8_t *from, size_t from_length) {
+    static fence input, store, output, flags;
+    static uint8_t store_before[LONGEST], store_after[LR800_STORE], output_after[LR800_LANES], flags_after[LR800_FLAGS], input_before[LONGEST];
+    static const size_t right[] = {LR800_FRAME, LR800_STORE, LR800_LANES, LR800_FLAGS};
+    size_t n[4];
+    uint32_t expected;
+    for (unsigned i = 0; i < 4; i++) n[i] = some_length(INPUT_LENGTH + i, right[i]);
+    uint8_t *in = lend_filled(&input, n[0], from, from_length);
+    if (n[0]) memcpy(input_before, in, n[0]);
+    expected = first_wrong(n, right, 4);
+    if (expected == 0) {
+        uint32_t wrong = 0;
+        for (int i = 0; i < PILOTS; i++) wrong += in[64 * i] != pilots[i];
+        mark(PILOTS_WRONG, wrong / 2);
+        if (wrong >= NO_LOCK) expected = 5;
+    }
+    /* twice, over other bytes: what stands in output and flags must not matter */
+    for (int again = 0; again < 2; again++) {
+        uint8_t filler = again ? 0xC3 : 0x3C;
+        size_t skip = choice(STORE_FROM) < 64 ? capture_length : choice(STORE_FROM) % (capture_length + 1);
+        uint8_t *kept = lend_filled(&store, n[1], from_place(skip), capture_length - skip);
+        uint8_t *out = lend(&output, n[2], filler), *marked = lend(&flags, n[3], filler);
+        if (n[1]) memcpy(store_before, kept, n[1]);
+        uint32_t answer = lr800_receive(in, n[0], kept, n[1], out, n[2], marked, n[3]);
+        mark(RECEIVED, answer);
+        MUST(answer == expected);
+        MUST(same_bytes(in, input_before, n[0]));
+        if (answer != 0) {
+            MUST(same_bytes(kept, store_before, n[1]) && all_are(out, n[2], filler) && all_are(marked, n[3], filler));
+        } else {
+            uint64_t counts[4] = {0};
+            for (int i = 0; i < LR800_FLAGS; i++) {
+                MUST(marked[i] <= 3);
+                counts[marked[i]]++;
+            }
+            for (int i = 1; i < 4; i++) mark(WORDS_ONE + (unsigned)i - 1, size_of_number(counts[i]));
+            if (again) MUST(same_bytes(kept, store_after, n[1]) && same_bytes(out, output_after, n[2]) && same_bytes(marked, flags_after, n[3]));
+            memcpy(store_after, kept, n[1]);
+            memcpy(output_after, out, n[2]);
+            memcpy(flags_after, marked, n[3]);
+        }
+        check_fence(&input);
+        check_fence(&store);
+        check_fence(&output);
+        check_fence(&flags);
+    }
+}
+
+/* What is sent locks, and each of its words is a code word: received from any store, nothing is mended. */
+static void check_send(void) {
+    static fence input, store, output;
+    static uint8_t first[LR800_FRAME], first_store[LR800_STORE], lanes[LR800_LANES], flags[LR800_FLAGS];
+    static const size_t right[] = {LR800_LANES, LR800_STORE, LR800_FRAME};
+    size_t n[3];
+    for (unsigned i = 0; i < 3; i++) n[i] = some_length(INPUT_LENGTH + i, right[i]);
+    uint32_t expected = first_wrong(n, right, 3);
+    for (int again = 0; again < 2; again++) {
+        uint8_t filler = again ? 0xC3 : 0x3C;
+        uint8_t *in = lend_filled(&input, n[0], capture, capture_length), *kept = lend(&store, n[1], 0x77), *out = lend(&output, n[2], filler);
+        uint32_t answer = lr800_send(in, n[0], kept, n[1], out, n[2]);
+        mark(SENT, answer);
+        MUST(answer == expected);
+        MUST(same_bytes(in, capture, n[0] < capture_length ? n[0] : capture_length));
+        if (answer != 0) MUST(all_are(kept, n[1], 0x77) && all_are(out, n[2], filler));
+        if (answer == 0 && again) MUST(same_bytes(out, first, n[2]) && same_bytes(kept, first_store, n[1]));
+        if (answer == 0 && !again) {
+            memcpy(first, out, n[2]);
+            memcpy(first_store, kept, n[1]);
+            MUST(lr800_receive(out, n[2], first_store, n[1], lanes, sizeof lanes, flags, sizeof flags) == 0);
+            MUST(all_are(flags, sizeof flags, 0));
+            memcpy(first_store, kept, n[1]);
+        }
+        check_fence(&input);
+        check_fence(&store);
+        check_fence(&output);
+    }
+}
+
+/* ---- The account and the verdict, of any stored numbers ---- */
+
+static int same_account(const lr800_account *a, const lr800_account *b) {
+    return a->expected == b->expected && a->accepted == b->accepted && a->missing == b->missing && a->clean == b->clean && a->one == b->one && a->two == b->two
+        && a->flagged == b->flagged;
+}
+
+static int above(uint64_t stored, uint64_t added, uint64_t limit) {
+    return stored > limit || added > limit - stored;
+}
+
+static void check_account(const lr800_account *before) {
+    static fence flags;
+    static const uint64_t frames = 1000000, words = 384000000;
+    size_t length = some_length(FLAGS_LENGTH, LR800_FLAGS);
+    uint8_t *marked = lend_filled(&flags, length, capture, capture_length);
+    uint64_t counts[4] = {0};
+    for (size_t i = 0; i < length; i++) {
+        if (choice(RAW_FLAGS) < 200) marked[i] &= 3;
+        if (marked[i] < 4) counts[marked[i]]++;
+    }
+    uint32_t got = (uint32_t)control[GOT], gap = got - before->expected, expected = 0;
+    lr800_account after = *before;
+    if (length != LR800_FLAGS) expected = 4;
+    else if (gap >= (uint32_t)1 << 31) expected = 10;
+    else if (above(before->accepted, 1, frames) || above(before->missing, gap, frames) || above(before->clean, counts[0], words)
+             || above(before->one, counts[1], words) || above(before->two, counts[2], words) || above(before->flagged, counts[3], words)) expected = 11;
+    else if (counts[0] + counts[1] + counts[2] + counts[3] != LR800_FLAGS) expected = 12;
+    if (expected == 0) {
+        after.expected = got + 1;
+        after.accepted++, after.missing += gap;
+        after.clean += counts[0], after.one += counts[1], after.two += counts[2], after.flagged += counts[3];
+    }
+    lr800_account account = *before;
+    uint32_t answer = lr800_account_enter(&account, got, marked, length);
+    mark(ENTERED, answer);
+    MUST(answer == expected && same_account(&account, &after));
+    check_fence(&flags);
+
+    expected = 0;
+    after = *before;
+    if (gap >= (uint32_t)1 << 31) expected = 10;
+    else if (above(before->accepted, 0, frames) || above(before->missing, (uint64_t)gap + 1, frames) || above(before->clean, 0, words)
+             || above(before->one, 0, words) || above(before->two, 0, words) || above(before->flagged, 0, words)) expected = 11;
+    if (expected == 0) after.expected = got + 1, after.missing += (uint64_t)gap + 1;
+    account = *before;
+    answer = lr800_account_lose(&account, got);
+    mark(LOST, answer);
+    MUST(answer == expected && same_account(&account, &after));
+
+    lr800_account_open(&account, got);
+    MUST(account.expected == got && !account.accepted && !account.missing && !account.clean && !account.one && !account.two && !account.flagged);
+}
+
+static uint32_t verdict_on(const lr800_run *run, uint32_t stopped) {
+    const lr800_account *a = &run->account;
+    uint32_t verdict = lr800_verdict(run->asked, run->allowed, a->accepted, a->missing, a->clean, a->one, a->two, a->flagged, stopped);
+    mark(JUDGED, verdict);
+    if (verdict == LR800_NOT_MEASURED) return verdict;
+    MUST(verdict == (a->flagged <= run->allowed ? LR800_PASS : LR800_FAIL));
+    MUST(!stopped && run->asked && a->accepted == run->asked && !a->missing);
+    /* none of them wraps: each is at most the total */
+    uint64_t total = 384 * a->accepted;
+    MUST(a->clean <= total && a->one <= total && a->two <= total && a->flagged <= total && a->clean + a->one + a->two + a->flagged == total);
+    return verdict;
+}
+
+static void check_report(lr800_run run) {
+    static fence text;
+    static const char *const names[] = {"NOT MEASURED", "PASS", "FAIL"};
+    char expected[LR800_REPORT + 1];
+    uint32_t verdict = lr800_run_verdict(run);
+    MUST(verdict == verdict_on(&run, run.phase != LR800_GOING));
+    const lr800_account *a = &run.account;
+    int length = snprintf(expected, sizeof expected,
+                          "asked %" PRIu32 "\naccepted %" PRIu64 "\nmissing %" PRIu64 "\nclean %" PRIu64 "\none %" PRIu64 "\ntwo %" PRIu64 "\nflagged %" PRIu64
+                          "\nverdict %s\n", run.asked, a->accepted, a->missing, a->clean, a->one, a->two, a->flagged, names[verdict]);
+    MUST(length > 0 && length <= LR800_REPORT);
+    size_t n = (size_t)length, rooms[] = {n, n - 1, n + 1, 0, LR800_REPORT, (size_t)(control[ROOM] % 512)};
+    for (unsigned i = 0; i < sizeof rooms / sizeof rooms[0]; i++) {
+        uint8_t *to = lend(&text, rooms[i], 0x3C);
+        size_t answer = lr800_run_report(run, to, rooms[i]);
+        mark(REPORTED, answer == 0);
+        MUST(answer == (rooms[i] < n ? 0 : n));
+        MUST(same_bytes(to, (const uint8_t *)expected, answer) && (rooms[i] == 0 || all_are(to + answer, rooms[i] - answer, 0x3C)));
+        check_fence(&text);
+    }
+}
+
+/* ---- The reader ---- */
+
+static void check_record(lr800_record r, size_t place) {
+    const uint8_t *at = from_place(place < capture_length ? place : 0);
+    size_t left = place < capture_length ? capture_length - place : 0;
+    mark(READ_AS, r.refusal ? r.refusal : r.kind);
+    MUST(r.refusal == 0 || (r.refusal >= 6 && r.refusal <= 9));
+    MUST(r.kind <= LR800_RECORD_FRAME);
+    if (r.kind == LR800_RECORD_NONE) {
+        MUST((r.refusal == 0) == (left == 0));
+        MUST(r.next == place && !r.number && !r.asked && !r.allowed && !r.symbols);
+        if (r.refusal == 6) MUST(left < 4 || (four(at) == LR800_ORDER_BYTES - 4 && left < LR800_ORDER_BYTES) || (four(at) == LR800_FRAME_BYTES - 4 && left < LR800_FRAME_BYTES));
+        if (r.refusal == 7) MUST(left >= 4 && four(at) != LR800_ORDER_BYTES - 4 && four(at) != LR800_FRAME_BYTES - 4);
+        if (r.refusal == 8) MUST(at[4] != 1);
+        if (r.refusal == 9) MUST(at[4] == 1 && at[5] != (four(at) == LR800_FRAME_BYTES - 4));
+    } else {
+        size_t bytes = r.kind == LR800_RECORD_ORDER ? LR800_ORDER_BYTES : LR800_FRAME_BYTES;
+        MUST(r.refusal == 0 && bytes <= left && r.next == place + bytes);
+        MUST(four(at) == bytes - 4 && at[4] == 1 && at[5] == (r.kind == LR800_RECORD_FRAME) && r.number == four(at + 6));
+        if (r.kind == LR800_RECORD_ORDER) MUST(r.asked == four(at + 10) && r.allowed == four(at + 14) && r.symbols == 0);
+        else MUST(r.asked == 0 && r.allowed == 0 && r.symbols == place + 10 && r.symbols + LR800_FRAME == r.next);
+    }
+}
+
+static lr800_record read_at(size_t place) {
+    lr800_record r = lr800_read(capture, capture_length, place), again = lr800_read(capture, capture_length, place);
+    MUST(r.refusal == again.refusal && r.kind == again.kind && r.number == again.number && r.asked == again.asked && r.allowed == again.allowed
+         && r.symbols == again.symbols && r.next == again.next);
+    check_record(r, place);
+    return r;
+}
+
+/* ---- A whole run ---- */
+
+/* any phase above stopped is taken for it, and is stopped after a step */
+static int same_phase(uint32_t a, uint32_t b) {
+    return a == b || (a >= LR800_STOPPED && b >= LR800_STOPPED);
+}
+
+static int same_run(const lr800_run *a, const lr800_run *b) {
+    return same_phase(a->phase, b->phase) && a->asked == b->asked && a->allowed == b->allowed && same_account(&a->account, &b->account);
+}
+
+/* a step, twice from the same beginning; and with a store of another length, which changes nothing */
+static void step(lr800_run *run, uint8_t *store, const uint8_t *piece, size_t length) {
+    static fence lent;
+    static uint8_t first_store[LR800_STORE];
+    lr800_run before = *run, first = *run;
+    for (int again = 0; again < 2; again++) {
+        lr800_run after = before;
+        uint8_t *kept = lend_filled(&lent, LR800_STORE, store, LR800_STORE);
+        MUST(lr800_run_step(&after, kept, LR800_STORE, piece, length) == 0);
+        check_fence(&lent);
+        MUST(after.phase <= LR800_STOPPED);
+        if (again) MUST(same_run(&after, &first) && same_bytes(kept, first_store, LR800_STORE));
+        first = after;
+        memcpy(first_store, kept, LR800_STORE);
+    }
+    if (length == 0 || before.phase >= LR800_STOPPED) MUST(same_run(&before, &first) && same_bytes(store, first_store, LR800_STORE));
+    if (before.phase < LR800_STOPPED && first.phase >= LR800_STOPPED) {
+        lr800_run stopped = before;
+        lr800_run_stop(&stopped);
+        MUST(same_run(&stopped, &first) && same_bytes(store, first_store, LR800_STORE)); /* and nothing else changes */
+    }
+    if (before.phase == LR800_UNORDERED && first.phase == LR800_GOING) MUST(all_are(first_store, LR800_STORE, 0));
+    size_t other = some_length(STORE_LENGTH, LR800_STORE - 1);
+    if (other != LR800_STORE) {
+        lr800_run after = before;
+        uint8_t *kept = lend(&lent, other, 0x3C);
+        MUST(lr800_run_step(&after, kept, other, piece, length) == 2);
+        MUST(after.phase == before.phase && same_run(&after, &before) && all_are(kept, other, 0x3C));
+        check_fence(&lent);
+    }
+    *run = first;
+    memcpy(store, first_store, LR800_STORE);
+}
+
+static void check_kept(const lr800_run *run) {
+    const lr800_account *a = &run->account;
+    MUST(run->phase <= LR800_STOPPED && a->accepted <= 1000000 && a->missing <= 1000000);
+    MUST(a->clean + a->one + a->two + a->flagged == 384 * a->accepted);
+    if (run->phase == LR800_UNORDERED) MUST(!run->asked && !run->allowed && !a->expected && !a->accepted && !a->missing);
+}
+
+/* the host cuts the input into records by what is wanted */
+static void run_by_wanted(lr800_run *run, uint8_t *store) {
+    static fence piece;
+    size_t place = 0;
+    uint64_t steps = 0;
+    while (run->phase < LR800_STOPPED) {
+        size_t have = 0, wanted;
+        while ((wanted = lr800_wanted(have ? from_place(place) : NULL, have)) > have) {
+            MUST(wanted == 4 || (have >= 4 && (wanted == LR800_ORDER_BYTES || wanted == LR800_FRAME_BYTES) && wanted == (size_t)four(from_place(place)) + 4));
+            if (wanted > capture_length - place) wanted = capture_length - place;
+            if (wanted == have) break;
+            have = wanted;
+        }
+        if (have == 0) break;
+        step(run, store, lend_filled(&piece, have, from_place(place), have), have);
+        check_fence(&piece);
+        check_kept(run);
+        place += have;
+        steps++;
+    }
+    mark(STEPS, steps * 3 + run->phase);
+    step(run, store, NULL, 0);
+}
+
+/* the host goes by the reader's places, and gives all that is left */
+static void run_by_places(lr800_run *run, uint8_t *store) {
+    for (size_t place = 0;;) {
+        lr800_record r = read_at(place);
+        step(run, store, from_place(place), capture_length - place);
+        MUST(run->phase >= LR800_STOPPED || r.refusal == 0);
+        if (run->phase >= LR800_STOPPED || r.kind == LR800_RECORD_NONE) break;
+        MUST(r.next > place);
+        place = r.next;
+    }
+    if (run->phase >= LR800_STOPPED) step(run, store, capture, capture_length);
+}
+
+/* the host keeps every rule by itself */
+static void run_by_hand(lr800_run *run, uint8_t *store) {
+    static uint8_t kept[LR800_STORE], lanes[LR800_LANES], flags[LR800_FLAGS];
+    size_t place = 0;
+    while (run->phase != LR800_STOPPED) {
+        lr800_record r = read_at(place);
+        if (r.kind == LR800_RECORD_NONE && r.refusal == 0) break;
+        place = r.next;
+        if (r.kind == LR800_RECORD_ORDER && run->phase == LR800_UNORDERED) {
+            run->phase = LR800_GOING, run->asked = r.asked, run->allowed = r.allowed;
+            lr800_account_open(&run->account, r.number);
+            memset(store, 0, LR800_STORE);
+        } else if (r.kind == LR800_RECORD_FRAME && run->phase == LR800_GOING) {
+            memcpy(kept, store, LR800_STORE);
+            uint32_t answer = lr800_receive(from_place(r.symbols), LR800_FRAME, kept, sizeof kept, lanes, sizeof lanes, flags, sizeof flags);
+            MUST(answer == 0 || answer == 5);
+            uint32_t entered = answer ? lr800_account_lose(&run->account, r.number) : lr800_account_enter(&run->account, r.number, flags, sizeof flags);
+            if (entered != 0) run->phase = LR800_STOPPED;
+            else memcpy(store, kept, LR800_STORE);
+        } else run->phase = LR800_STOPPED;
+    }
+}
+
+static void check_runs(void) {
+    static uint8_t stores[3][LR800_STORE];
+    static void (*const ways[])(lr800_run *, uint8_t *) = {run_by_wanted, run_by_places, run_by_hand};
+    lr800_run runs[3];
+    for (int way = 0; way < 3; way++) {
+        memset(&runs[way], 0xFF, sizeof runs[way]);
+        lr800_run_open(&runs[way]);
+        MUST(runs[way].phase == LR800_UNORDERED);
+        check_kept(&runs[way]);
+        memset(stores[way], 0x77, LR800_STORE); /* the first order clears it */
+        ways[way](&runs[way], stores[way]);
+        if (way > 0) MUST(same_run(&runs[way], &runs[0]) && same_bytes(stores[way], stores[0], LR800_STORE));
+    }
+    check_report(runs[0]);
+    lr800_run_stop(&runs[0]);
+    MUST(runs[0].phase == LR800_STOPPED && runs[0].asked == runs[1].asked && runs[0].allowed == runs[1].allowed && same_account(&runs[0].account, &runs[1].account));
+    check_report(runs[0]);
+}
+
+int LLVMFuzzerTestOneInput(const uint8_t *data, size_t size) {
+    static fence lent;
+    static uint8_t store[LR800_STORE];
+    static int begun;
+    if (size < CONTROL || size > LONGEST) return 0;
+    if (!begun) learn_pilots();
+    begun = 1;
+    for (int i = 0; i < NUMBERS; i++) control[i] = (uint64_t)four(data + 8 * i) << 32 | four(data + 8 * i + 4);
+    at_the_end = choice(SIDE) & 1;
+    capture_length = size - CONTROL;
+    capture = lend_filled(&lent, capture_length, data + CONTROL, capture_length);
+
+    lr800_record first = read_at(0);
+    read_at((size_t)control[PLACE]);
+    check_runs();
+    check_send();
+    /* symbols that lie in a record: of the first frame, by the reader's word; else whatever is there */
+    if (first.kind == LR800_RECORD_ORDER) first = read_at(first.next);
+    size_t from = first.kind == LR800_RECORD_FRAME ? first.symbols : 0;
+    check_receive(from_place(from), capture_length - from);
+
+    /* any stored numbers are lawful */
+    lr800_run run = {(uint32_t)(control[STOPPED] >> 32), (uint32_t)(control[FIGURES] >> 32), (uint32_t)control[FIGURES],
+                     {(uint32_t)control[ACCOUNT], control[ACCOUNT + 1], control[ACCOUNT + 2], control[ACCOUNT + 3], control[ACCOUNT + 4], control[ACCOUNT + 5],
+                      control[ACCOUNT + 6]}};
+    check_account(&run.account);
+    verdict_on(&run, (uint32_t)control[STOPPED]);
+    check_report(run);
+    memset(store, 0x77, sizeof store);
+    step(&run, store, capture, capture_length);
+    check_report(run);
+
+    MUST(same_bytes(capture, data + CONTROL, capture_length)); /* a lent capture is only read */
+    check_fence(&lent);
+    return 0;
+}
+
+#ifdef ALONE
+
+int main(int count, char **names) {
+    static uint8_t data[LONGEST];
+    for (int i = 1; i < count; i++) {
+        FILE *file = fopen(names[i], "rb");
+        MUST(file);
+        size_t size = fread(data, 1, sizeof data, file);
+        MUST(!ferror(file) && fclose(file) == 0);
+        MUST(size >= CONTROL);
+        LLVMFuzzerTestOneInput(data, size);
+    }
+    printf("%d inputs hold\n", count - 1);
+    return 0;
+}
+
+#else
+
+/* ---- How an input is changed: bytes by libFuzzer, and records as records ---- */
+
+size_t LLVMFuzzerMutate(uint8_t *data, size_t size, size_t limit);
+size_t LLVMFuzzerCustomMutator(uint8_t *data, size_t size, size_t limit, unsigned seed);
+
+static uint64_t state;
+
+static uint32_t below(uint32_t bound) {
+    state = state * 6364136223846793005u + 1442695040888963407u;
+    return (uint32_t)(state >> 33) % bound;
+}
+
+static void put_four(uint8_t *to, uint32_t n) {
+    for (int i = 0; i < 4; i++) to[i] = (uint8_t)(n >> (24 - 8 * i));
+}
+
+static void put_control(uint8_t *data, unsigned which, uint64_t n) {
+    put_four(data + 8 * which, (uint32_t)(n >> 32));
+    put_four(data + 8 * which + 4, (uint32_t)n);
+}
+
+/* numbers at which something changes */
+static uint64_t telling(void) {
+    static const uint64_t at[] = {0, 1, 2, 384, 768, 1000000, 384000000, (uint64_t)1 << 31, (uint64_t)1 << 32, (uint64_t)1 << 63};
+    return at[below(sizeof at / sizeof at[0])] + below(5) - 2;
+}
+
+/* a run that was measured, or would be if sums wrapped */
+static void put_measured(uint8_t *data) {
+    uint64_t asked = (uint32_t)(below(2) ? below(4) : telling()), rest = 384 * asked;
+    for (unsigned i = 3; i < 6; i++) {
+        uint64_t n = below(2) ? below(385) : telling() << below(33);
+        put_control(data, ACCOUNT + i, n);
+        rest -= n;
+    }
+    put_control(data, ACCOUNT + 1, asked);
+    put_control(data, ACCOUNT + 2, 0);
+    put_control(data, ACCOUNT + 6, rest);
+    put_control(data, FIGURES, asked << 32 | (uint32_t)(rest + below(3) - 1));
+    put_control(data, STOPPED, (uint64_t)LR800_GOING << 32);
+}
+
+/* an account at its limits, and a frame next after the expected one */
+static void put_full(uint8_t *data) {
+    uint32_t expected = (uint32_t)telling();
+    for (unsigned i = 1; i < 7; i++) put_control(data, ACCOUNT + i, below(3) ? 0 : (i < 3 ? 1000000 : 384000000) - below(2) * below(400));
+    put_control(data, ACCOUNT, expected);
+    put_control(data, GOT, (uint64_t)expected + below(3));
+}
+
+/* where the records of a capture begin, as far as their lengths go */
+static size_t find_records(const uint8_t *bytes, size_t length, size_t *places, size_t most) {
+    size_t count = 0, place = 0;
+    while (count < most && length - place >= 4) {
+        size_t record = (size_t)four(bytes + place) + 4;
+        places[count++] = place;
+        if (record > length - place) break;
+        place += record;
+    }
+    return count;
+}
+
+size_t LLVMFuzzerCustomMutator(uint8_t *data, size_t size, size_t limit, unsigned seed) {
+    enum { MOST = 16 };
+    size_t places[MOST], count, place, end, length;
+    uint8_t *bytes = data + CONTROL;
+    state = seed;
+    below(2);
+    if (size < CONTROL || below(8) == 0) return LLVMFuzzerMutate(data, size, limit);
+    length = size - CONTROL;
+    switch (below(12)) { /* the control */
+    case 0: data[below(8)] = (uint8_t)below(256); return size;
+    case 1: put_control(data, 1 + below(NUMBERS - 1), telling()); return size;
+    case 2: put_measured(data); return size;
+    case 3: put_full(data); return size;
+    default: break;
+    }
+    count = find_records(bytes, length, places, MOST);
+    if (count == 0) return CONTROL + LLVMFuzzerMutate(bytes, length, limit - CONTROL);
+    unsigned which = below((uint32_t)count);
+    place = places[which];
+    end = which + 1 < count ? places[which + 1] : length;
+    switch (below(9)) {
+    case 0: /* the record twice */
+        if (size + (end - place) > limit) return size;
+        memmove(bytes + end + (end - place), bytes + end, length - end);
+        memcpy(bytes + end, bytes + place, end - place);
+        return size + (end - place);
+    case 1: /* the record left out */
+        memmove(bytes + place, bytes + end, length - end);
+        return size - (end - place);
+    case 2: /* the end cut off */
+        return CONTROL + place + below((uint32_t)(length - place + 1));
+    case 3: /* its length, version or kind */
+        if (end - place >= 6) bytes[place + below(6)] ^= (uint8_t)(1 << below(8));
+        return size;
+    case 4: /* its number: the one before it and one more, or any that tells */
+        if (end - place >= 10) put_four(bytes + place + 6, which && below(2) ? four(bytes + places[which - 1] + 6) + below(3) : (uint32_t)telling());
+        return size;
+    case 5: /* an order's figures */
+        if (places[0] + LR800_ORDER_BYTES <= length) put_four(bytes + 10 + 4 * below(2), (uint32_t)(below(2) ? count - 1 : telling()));
+        return size;
+    case 6: /* pilots */
+        for (uint32_t n = below(30); n; n--)
+            if (end - place == LR800_FRAME_BYTES) bytes[place + 10 + 64 * below(PILOTS)] ^= (uint8_t)(1 + below(255));
+        return size;
+    case 7: /* symbols: a few bits, or very many */
+        for (uint32_t n = below(2) ? below(8) : below(3000); n; n--)
+            if (end - place == LR800_FRAME_BYTES) bytes[place + 10 + below(LR800_FRAME)] ^= (uint8_t)(1 << below(8));
+        return size;
+    default: /* bytes behind it all */
+        if (size + 8 > limit) return size;
+        for (uint32_t n = below(8); n; n--) data[size++] = (uint8_t)below(256);
+        return size;
+    }
+}
+
+#endif
