@@ -4,19 +4,20 @@
  * Every call ends, and any bytes, lengths and stored numbers are lawful. Nothing allocates or keeps state of its own: what is kept between calls is the caller's,
  * and calls that share no memory may run at once. A call takes up to 70 kB of stack, and of the C library memcpy and memset.
  *
- * Refusals have numbers. Where a call answers one, 0 is done; any other is the lowest of those that apply, and a refused call changes nothing.
- *   by lr800_send, lr800_receive and, of them, 2 by lr800_run_step and 4 by lr800_account_enter
+ * Refusals have numbers. Where a call answers one, 0 is done; any other is the lowest of those that apply, and a refused call changes nothing, but that a record
+ * refused in a run stops the run.
+ *   by lr800_send, lr800_receive, and 2 by lr800_run_step, 4 by lr800_account_enter
  *     1  input is not LR800_LANES bytes long (sending), LR800_FRAME (receiving)
  *     2  the store is not LR800_STORE bytes long
  *     3  output is not LR800_FRAME bytes long (sending), LR800_LANES (receiving)
  *     4  there are not LR800_FLAGS flag bytes
  *     5  no lock: 25 or more of the 96 pilot bytes differ
- *   by lr800_read, in what it returns
+ *   by lr800_read, in what it returns, and lr800_run_step
  *     6  a record is cut short
  *     7  its length is not 14 or 6,150
  *     8  its version is not 1
  *     9  its kind does not match its length
- *   by lr800_account_enter and, of them, 10 and 11 by lr800_account_lose
+ *   by lr800_account_enter, and 10 and 11 by lr800_account_lose and lr800_run_step
  *    10  the frame's number is late: 2^31 or more after the expected one, round 2^32
  *    11  after the entry, accepted or missing frames would stand above 1,000,000, or some tally above 384,000,000
  *    12  the frame's tallies do not add up to 384: some of its flag bytes are above 3
@@ -114,7 +115,7 @@ size_t lr800_wanted(const uint8_t *piece, size_t piece_length);
 
 /* ---- A whole run: the host gives records, and no rule is left to it ---- */
 
-/* Where a run stands. Any phase above LR800_STOPPED is taken for it, and is LR800_STOPPED after a step that is done. */
+/* Where a run stands. Any phase above LR800_STOPPED is taken for it, and is LR800_STOPPED after a step that does not answer 2. */
 enum { LR800_UNORDERED = 0, LR800_GOING = 1, LR800_STOPPED = 2 };
 
 /* A run: its phase, the order's figures and the account. Any numbers are lawful. All zero is a run before its first record. */
@@ -131,8 +132,8 @@ void lr800_run_open(lr800_run *run);
 /* One record's bytes, from their beginning; what follows a whole record is not looked at, and no bytes change nothing. The store is the run's own: lend it to every step of
  * the run, and to nothing else; the first order clears it. The first order opens the account; a frame is received and entered, or without lock entered as a
  * loss; a refused record or entry, a second order and a frame before any order stop the run, and nothing else changes. A stopped run changes no more.
- * Answers 0, or 2. Whether the run was stopped is told by its phase; by which refusal, by lr800_read of the same bytes (6 to 9) and lr800_account_lose on a copy of the
- * account (10, else 11). */
+ * Answers 2, and nothing is changed; else 6 to 11, by which the record or its entry (of a frame without lock: the loss) was refused, and the run is stopped; else 0. A second
+ * order and a frame before any order have no number and answer 0, and so does whatever comes to a stopped run: whether a run is stopped is told by its phase. */
 uint32_t lr800_run_step(lr800_run *run, uint8_t *store, size_t store_length, const uint8_t *piece, size_t piece_length);
 
 /* Stops a run, as a host must whose input could not be read to its end: a read that fails is no end. Its figures and its account stay. */

@@ -169,9 +169,10 @@ static size_t read_capture(size_t length, size_t *place, uint8_t *to, size_t cou
 }
 
 /* A whole run: no rule is left to the host but to give every record in its turn. */
-static void run_capture(const char *what, size_t length, uint32_t verdict) {
+static void run_capture(const char *what, size_t length, uint32_t refused_by, uint32_t verdict) {
     static uint8_t store[LR800_STORE], piece[LR800_FRAME_BYTES], text[LR800_REPORT];
     size_t place = 0, have, got, written;
+    uint32_t answer = 0;
     lr800_run run;
     lr800_run_open(&run);
     while (run.phase < LR800_STOPPED) {
@@ -181,20 +182,24 @@ static void run_capture(const char *what, size_t length, uint32_t verdict) {
             have += got;
         } while (got > 0 && have < lr800_wanted(piece, have));
         if (have == 0) break; /* the end, between two records; an end within one is told by the step */
-        must(lr800_run_step(&run, store, sizeof store, piece, have) == 0, "the store has another length");
+        answer = lr800_run_step(&run, store, sizeof store, piece, have);
+        must(answer != 2, "the store has another length"); /* any other than 0 has stopped the run */
     }
+    must(answer == refused_by, "a record was refused, or was not, or by another number");
     written = lr800_run_report(run, text, sizeof text);
     must(written > 0, "there was no room for the report");
     must(lr800_run_verdict(run) == verdict, "another verdict");
     printf("\n%s\n", what);
+    if (answer != 0) printf("refused by %" PRIu32 "\n", answer);
     must(fwrite(text, 1, written, stdout) == written, "the report was not written"); /* no 00 stands behind it */
 }
 
 int main(void) {
     send_stream();
     receive_stream();
-    run_capture("the capture of all frames as sent:", write_capture(FRAMES), LR800_PASS);
-    run_capture("the same without one of them:", write_capture(LOST), LR800_NOT_MEASURED);
+    run_capture("the capture of all frames as sent:", write_capture(FRAMES), 0, LR800_PASS);
+    run_capture("the same without one of them:", write_capture(LOST), 0, LR800_NOT_MEASURED);
+    run_capture("all of them, the last cut short:", write_capture(FRAMES) - 1, 6, LR800_NOT_MEASURED);
     must(fflush(stdout) == 0, "not all of it was written");
     return 0;
 }

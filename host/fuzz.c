@@ -360,21 +360,43 @@ static int same_run(const lr800_run *a, const lr800_run *b) {
     return same_phase(a->phase, b->phase) && a->asked == b->asked && a->allowed == b->allowed && same_account(&a->account, &b->account);
 }
 
-/* a step, twice from the same beginning; and with a store of another length, which changes nothing */
-static void step(lr800_run *run, uint8_t *store, const uint8_t *piece, size_t length) {
+/* whether a step must stop a run, and by which number: by the calls that tell a record's refusal and that of its entry */
+static int stops(const lr800_run *run, const uint8_t *store, const uint8_t *piece, size_t length, uint32_t *number) {
+    static uint8_t kept[LR800_STORE], lanes[LR800_LANES], flags[LR800_FLAGS];
+    lr800_account account = run->account;
+    *number = 0;
+    if (run->phase >= LR800_STOPPED) return 0;
+    lr800_record r = lr800_read(piece, length, 0);
+    *number = r.refusal;
+    if (r.kind == LR800_RECORD_NONE) return r.refusal != 0;
+    if (run->phase == LR800_UNORDERED || r.kind == LR800_RECORD_ORDER) return (run->phase == LR800_GOING) == (r.kind == LR800_RECORD_ORDER);
+    memcpy(kept, store, LR800_STORE);
+    uint32_t answer = lr800_receive(piece + r.symbols, LR800_FRAME, kept, sizeof kept, lanes, sizeof lanes, flags, sizeof flags);
+    MUST(answer == 0 || answer == 5);
+    *number = answer ? lr800_account_lose(&account, r.number) : lr800_account_enter(&account, r.number, flags, sizeof flags);
+    return *number != 0;
+}
+
+/* a step, twice from the same beginning; and with a store of another length, which changes nothing. Answers what the step did */
+static uint32_t step(lr800_run *run, uint8_t *store, const uint8_t *piece, size_t length) {
     static fence lent;
     static uint8_t first_store[LR800_STORE];
     lr800_run before = *run, first = *run;
+    uint32_t number;
+    int stopped_now = stops(run, store, piece, length, &number);
+    MUST(number == 0 || (number >= 6 && number <= 11 && stopped_now));
     for (int again = 0; again < 2; again++) {
         lr800_run after = before;
         uint8_t *kept = lend_filled(&lent, LR800_STORE, store, LR800_STORE);
-        MUST(lr800_run_step(&after, kept, LR800_STORE, piece, length) == 0);
+        MUST(lr800_run_step(&after, kept, LR800_STORE, piece, length) == number);
         check_fence(&lent);
         MUST(after.phase <= LR800_STOPPED);
         if (again) MUST(same_run(&after, &first) && same_bytes(kept, first_store, LR800_STORE));
         first = after;
         memcpy(first_store, kept, LR800_STORE);
     }
+    mark(STEPPED, 3 * number + first.phase);
+    MUST((before.phase < LR800_STOPPED && first.phase == LR800_STOPPED) == stopped_now);
     if (length == 0 || before.phase >= LR800_STOPPED) MUST(same_run(&before, &first) && same_bytes(store, first_store, LR800_STORE));
     if (before.phase < LR800_STOPPED && first.phase >= LR800_STOPPED) {
         lr800_run stopped = before;
@@ -392,6 +414,7 @@ static void step(lr800_run *run, uint8_t *store, const uint8_t *piece, size_t le
     }
     *run = first;
     memcpy(store, first_store, LR800_STORE);
+    return number;
 }
 
 static void check_kept(const lr800_run *run) {
@@ -401,11 +424,14 @@ static void check_kept(const lr800_run *run) {
     if (run->phase == LR800_UNORDERED) MUST(!run->asked && !run->allowed && !a->expected && !a->accepted && !a->missing);
 }
 
+/* Three ways to run the capture. Each answers the number by which the run was stopped, or 0. */
+
 /* the host cuts the input into records by what is wanted */
-static void run_by_wanted(lr800_run *run, uint8_t *store) {
+static uint32_t run_by_wanted(lr800_run *run, uint8_t *store) {
     static fence piece;
     size_t place = 0;
     uint64_t steps = 0;
+    uint32_t number = 0;
     while (run->phase < LR800_STOPPED) {
         size_t have = 0, wanted;
         while ((wanted = lr800_wanted(have ? from_place(place) : NULL, have)) > have) {
@@ -415,33 +441,39 @@ static void run_by_wanted(lr800_run *run, uint8_t *store) {
             have = wanted;
         }
         if (have == 0) break;
-        step(run, store, lend_filled(&piece, have, from_place(place), have), have);
+        MUST(number == 0);
+        number = step(run, store, lend_filled(&piece, have, from_place(place), have), have);
         check_fence(&piece);
         check_kept(run);
         place += have;
         steps++;
     }
     mark(STEPS, steps * 3 + run->phase);
-    step(run, store, NULL, 0);
+    MUST(step(run, store, NULL, 0) == 0);
+    return number;
 }
 
 /* the host goes by the reader's places, and gives all that is left */
-static void run_by_places(lr800_run *run, uint8_t *store) {
+static uint32_t run_by_places(lr800_run *run, uint8_t *store) {
+    uint32_t number;
     for (size_t place = 0;;) {
         lr800_record r = read_at(place);
-        step(run, store, from_place(place), capture_length - place);
-        MUST(run->phase >= LR800_STOPPED || r.refusal == 0);
+        number = step(run, store, from_place(place), capture_length - place);
+        MUST(r.refusal == 0 || number == r.refusal);
+        MUST(number == 0 || run->phase == LR800_STOPPED);
         if (run->phase >= LR800_STOPPED || r.kind == LR800_RECORD_NONE) break;
         MUST(r.next > place);
         place = r.next;
     }
-    if (run->phase >= LR800_STOPPED) step(run, store, capture, capture_length);
+    if (run->phase >= LR800_STOPPED) MUST(step(run, store, capture, capture_length) == 0); /* told once */
+    return number;
 }
 
 /* the host keeps every rule by itself */
-static void run_by_hand(lr800_run *run, uint8_t *store) {
+static uint32_t run_by_hand(lr800_run *run, uint8_t *store) {
     static uint8_t kept[LR800_STORE], lanes[LR800_LANES], flags[LR800_FLAGS];
     size_t place = 0;
+    uint32_t number = 0;
     while (run->phase != LR800_STOPPED) {
         lr800_record r = read_at(place);
         if (r.kind == LR800_RECORD_NONE && r.refusal == 0) break;
@@ -454,25 +486,27 @@ static void run_by_hand(lr800_run *run, uint8_t *store) {
             memcpy(kept, store, LR800_STORE);
             uint32_t answer = lr800_receive(from_place(r.symbols), LR800_FRAME, kept, sizeof kept, lanes, sizeof lanes, flags, sizeof flags);
             MUST(answer == 0 || answer == 5);
-            uint32_t entered = answer ? lr800_account_lose(&run->account, r.number) : lr800_account_enter(&run->account, r.number, flags, sizeof flags);
-            if (entered != 0) run->phase = LR800_STOPPED;
+            number = answer ? lr800_account_lose(&run->account, r.number) : lr800_account_enter(&run->account, r.number, flags, sizeof flags);
+            if (number != 0) run->phase = LR800_STOPPED;
             else memcpy(store, kept, LR800_STORE);
-        } else run->phase = LR800_STOPPED;
+        } else run->phase = LR800_STOPPED, number = r.refusal;
     }
+    return number;
 }
 
 static void check_runs(void) {
     static uint8_t stores[3][LR800_STORE];
-    static void (*const ways[])(lr800_run *, uint8_t *) = {run_by_wanted, run_by_places, run_by_hand};
+    static uint32_t (*const ways[])(lr800_run *, uint8_t *) = {run_by_wanted, run_by_places, run_by_hand};
     lr800_run runs[3];
+    uint32_t numbers[3];
     for (int way = 0; way < 3; way++) {
         memset(&runs[way], 0xFF, sizeof runs[way]);
         lr800_run_open(&runs[way]);
         MUST(runs[way].phase == LR800_UNORDERED);
         check_kept(&runs[way]);
         memset(stores[way], 0x77, LR800_STORE); /* the first order clears it */
-        ways[way](&runs[way], stores[way]);
-        if (way > 0) MUST(same_run(&runs[way], &runs[0]) && same_bytes(stores[way], stores[0], LR800_STORE));
+        numbers[way] = ways[way](&runs[way], stores[way]);
+        if (way > 0) MUST(numbers[way] == numbers[0] && same_run(&runs[way], &runs[0]) && same_bytes(stores[way], stores[0], LR800_STORE));
     }
     check_report(runs[0]);
     lr800_run_stop(&runs[0]);
@@ -509,8 +543,15 @@ int LLVMFuzzerTestOneInput(const uint8_t *data, size_t size) {
     verdict_on(&run, (uint32_t)control[STOPPED]);
     check_report(run);
     memset(store, 0x77, sizeof store);
+    lr800_run going = run;
     step(&run, store, capture, capture_length);
     check_report(run);
+    if (first.kind == LR800_RECORD_FRAME) { /* and of a run that goes on, the first frame as far ahead of the expected one as the control says */
+        going.phase = LR800_GOING;
+        going.account.expected = first.number - ((uint32_t)control[GOT] - (uint32_t)control[ACCOUNT]);
+        memset(store, 0x77, sizeof store);
+        step(&going, store, from_place(first.symbols - 10), LR800_FRAME_BYTES);
+    }
 
     MUST(same_bytes(capture, data + CONTROL, capture_length)); /* a lent capture is only read */
     check_fence(&lent);
@@ -577,12 +618,12 @@ static void put_measured(uint8_t *data) {
     put_control(data, STOPPED, (uint64_t)LR800_GOING << 32);
 }
 
-/* an account at its limits, and a frame next after the expected one */
+/* an account at its limits, and a frame next after the expected one, or where something changes */
 static void put_full(uint8_t *data) {
     uint32_t expected = (uint32_t)telling();
     for (unsigned i = 1; i < 7; i++) put_control(data, ACCOUNT + i, below(3) ? 0 : (i < 3 ? 1000000 : 384000000) - below(2) * below(400));
     put_control(data, ACCOUNT, expected);
-    put_control(data, GOT, (uint64_t)expected + below(3));
+    put_control(data, GOT, expected + (below(3) ? below(3) : telling()));
 }
 
 /* where the records of a capture begin, as far as their lengths go */

@@ -41,12 +41,13 @@ impl Kept {
             order: (self.phase != UNORDERED).then_some(order),
             account: self.account,
             store,
-            // Why it stopped is not kept either, and this is as good as any.
+            // Why it stopped is not kept either; this has no number, so that none is told again.
             stop: (self.phase > GOING).then_some(Stop::ReadFailed),
         }
     }
 
-    /// Takes the record at the beginning of a piece. Returns 0, or 2, which changes nothing.
+    /// Takes the record at the beginning of a piece. Returns 0; or 2, which changes nothing; or the
+    /// number by which the record or its entry is refused, where that stops the run.
     pub fn step(&mut self, store: &mut [u8], piece: &[u8]) -> u32 {
         let store: &mut [u8; STORE_BYTES] = match store.try_into() {
             Ok(store) => store,
@@ -64,7 +65,7 @@ impl Kept {
             (self.asked, self.allowed) = (order.asked, order.allowed);
         }
         (self.account, *store) = (run.account, run.store);
-        0
+        run.stop.map_or(0, Stop::number)
     }
 
     pub fn stop(&mut self) {
@@ -144,10 +145,17 @@ mod tests {
         }
     }
 
-    /// The run and the store after a step, which must be done.
-    fn stepped(mut run: Kept, store: &[u8], piece: &[u8]) -> (Kept, Vec<u8>) {
+    /// The answer of a step, and the run and the store after it.
+    fn answered(mut run: Kept, store: &[u8], piece: &[u8]) -> (u32, Kept, Vec<u8>) {
         let mut store = store.to_vec();
-        assert_eq!(run.step(&mut store, piece), 0);
+        let number = run.step(&mut store, piece);
+        (number, run, store)
+    }
+
+    /// The run and the store after a step, which must be done.
+    fn stepped(run: Kept, store: &[u8], piece: &[u8]) -> (Kept, Vec<u8>) {
+        let (number, run, store) = answered(run, store, piece);
+        assert_eq!(number, 0);
         (run, store)
     }
 
@@ -157,21 +165,23 @@ mod tests {
         let [frame, lost] = frames(&mut random);
         let late = frame_record(2, &frame);
         let records = [
-            order(u32::MAX, 2, 0),
-            frame_record(u32::MAX, &frame),
-            frame_record(0, &frame),
-            frame_record(1, &lost),
-            frame_record(4, &frame),
-            late,
-            order(0, 1, 1),
+            (order(u32::MAX, 2, 0), 0),
+            (frame_record(u32::MAX, &frame), 0),
+            (frame_record(0, &frame), 0),
+            (frame_record(1, &lost), 0),
+            (frame_record(4, &frame), 0),
+            (late, 10),
+            (order(0, 1, 1), 0),
         ];
         let mut whole = Run::new();
         let mut kept = Kept::new();
         let mut store = random.bytes(2_880);
         let mut verdicts = vec![];
-        for (n, record) in records.iter().enumerate() {
+        for (n, (record, right)) in records.iter().enumerate() {
             whole.take(Reader::new(record).next_record());
-            (kept, store) = stepped(kept, &store, record);
+            let number;
+            (number, kept, store) = answered(kept, &store, record);
+            assert_eq!(number, *right);
             assert_eq!(kept.phase, if n < 5 { GOING } else { STOPPED });
             assert!(kept.account == whole.account && store == whole.store);
             assert_eq!(kept.report(), whole.report());
@@ -201,25 +211,31 @@ mod tests {
         let [frame, lost] = frames(&mut random);
         let (in_order, lost) = (frame_record(5, &frame), frame_record(5, &lost));
         let late = frame_record(4, &frame);
-        let stops = |phase, piece: &[u8]| {
-            let (run, after) = stepped(odd(phase), &store, piece);
-            assert!(run == odd(STOPPED) && after == store);
+        let (mut version, mut kind) = (order(5, 1, 1), order(5, 1, 1));
+        (version[4], kind[5]) = (2, 1);
+        let stops = |phase, piece: &[u8], number| {
+            let right = (number, odd(STOPPED), store.clone());
+            assert!(answered(odd(phase), &store, piece) == right);
         };
         // Before any order, in a run above its limits, and in one that was stopped.
-        for piece in [
-            &in_order[..],
-            &lost,
-            &late,
-            &[0],
-            &[0; 4],
-            &order(5, 1, 1)[..17],
+        for (piece, unordered, going) in [
+            (&in_order[..], 0, 11),
+            (&lost, 0, 11),
+            (&late, 0, 10),
+            (&[0], 6, 6),
+            (&[0; 4], 7, 7),
+            (&order(5, 1, 1)[..17], 6, 6),
+            (&version, 8, 8),
+            (&kind, 9, 9),
         ] {
-            for phase in [UNORDERED, GOING, STOPPED, 3, 256, 257, u32::MAX] {
-                stops(phase, piece);
+            stops(UNORDERED, piece, unordered);
+            stops(GOING, piece, going);
+            for phase in [STOPPED, 3, 256, 257, u32::MAX] {
+                stops(phase, piece, 0);
             }
         }
         for phase in [GOING, STOPPED, 3, 256, u32::MAX] {
-            stops(phase, &order(5, 1, 1));
+            stops(phase, &order(5, 1, 1), 0);
         }
         // No bytes stop no run; one with another phase is then told to be stopped.
         for (phase, after) in [(0, 0), (1, 1), (2, 2), (3, 2), (u32::MAX, 2)] {
@@ -227,6 +243,59 @@ mod tests {
             let mut run = odd(phase);
             run.stop();
             assert_eq!(run, odd(STOPPED));
+        }
+    }
+
+    /// Which entry is told: of a frame that locks its own, of one without lock its loss.
+    #[test]
+    fn the_number_of_an_entry_is_told() {
+        let mut random = Xorshift::new(94);
+        let store = random.bytes(2_880);
+        let [frame, lost] = frames(&mut random);
+        let (frames, words) = (1_000_000, 384_000_000);
+        // Accepted, missing and clean before it; how far ahead; the answers with lock and without.
+        for (accepted, missing, clean, d, with_lock, without) in [
+            (0, 0, 0, 0, 0, 0),
+            (frames - 1, 0, 0, 0, 0, 0),
+            (frames, 0, 0, 0, 11, 0),
+            (frames + 1, 0, 0, 0, 11, 11),
+            (0, frames - 1, 0, 0, 0, 0),
+            (0, frames, 0, 0, 0, 11),
+            (0, frames - 1, 0, 1, 0, 11),
+            (0, frames, 0, 1, 11, 11),
+            (0, 0, words - 384, 0, 0, 0),
+            (0, 0, words - 383, 0, 11, 0),
+            (0, 0, words, 0, 11, 0),
+            (0, 0, words + 1, 0, 11, 11),
+            (0, 0, 0, (1 << 31) - 1, 11, 11),
+            (0, 0, 0, 1 << 31, 10, 10),
+            (frames + 1, frames + 1, words + 1, u32::MAX, 10, 10),
+        ] {
+            let run = Kept {
+                phase: GOING,
+                asked: 1,
+                allowed: 0,
+                account: Account {
+                    accepted,
+                    missing,
+                    clean,
+                    ..opened(u32::MAX)
+                },
+            };
+            for (symbols, right) in [(&frame, with_lock), (&lost, without)] {
+                let record = frame_record(u32::MAX.wrapping_add(d), symbols);
+                let (number, after, moved) = answered(run, &store, &record);
+                assert_eq!(number, right);
+                if right == 0 {
+                    assert_eq!((after.phase, after.account.expected), (GOING, d));
+                } else {
+                    let phase = STOPPED;
+                    assert!(after == Kept { phase, ..run } && moved == store);
+                }
+                // Told once: the same record finds the run stopped, or late.
+                let (again, ..) = answered(after, &moved, &record);
+                assert_eq!(again, if right == 0 { 10 } else { 0 });
+            }
         }
     }
 
@@ -252,7 +321,7 @@ mod tests {
     #[test]
     fn a_store_of_a_wrong_length_is_refused_first() {
         for phase in [UNORDERED, GOING, STOPPED, 77] {
-            for piece in [&[][..], &[0], &order(1, 2, 3)] {
+            for piece in [&[][..], &[0], &[0; 4], &order(1, 2, 3)] {
                 for length in [0, 1, 2_879, 2_881, 5_280] {
                     let mut run = odd(phase);
                     let mut store = vec![0xA5; length];

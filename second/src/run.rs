@@ -20,6 +20,16 @@ pub enum Stop {
     ReadFailed,
 }
 
+impl Stop {
+    /// That of the refusal, or 0.
+    pub fn number(self) -> u32 {
+        match self {
+            Stop::Refused(number) => number,
+            Stop::NoOrder | Stop::SecondOrder | Stop::ReadFailed => 0,
+        }
+    }
+}
+
 #[derive(Clone, Debug, PartialEq, Eq)]
 pub struct Run {
     pub order: Option<Order>,

@@ -13,9 +13,10 @@ use Rattle.account.specs.declared.Entry.{Entry}
 use Rattle.account.specs.declared.Tallies.{Tallies}
 use Rattle.account.specs.Account.{talliesOf, frameEntered}
 use Rattle.bench.specs.declared.Run.{Run as Bench}
-use Rattle.bench.specs.Run.{State, stepped}
+use Rattle.bench.specs.declared.Stepped.{Stepped}
+use Rattle.bench.specs.Run.{State, stepped, stepRefusal}
 use Rattle.adderbloom.specs.Entry.{flagsEntered}
-use Rattle.adderbloom.specs.Run.{runOf, kept, steppedFrom, stepNumber, Steps}
+use Rattle.adderbloom.specs.Run.{runOf, kept, stateOf, Steps}
 use Rattle.adderbloom.specs.declared.runs.Run.{Run}
 
 -- ---- a frame by its flag bytes
@@ -32,19 +33,17 @@ module _ (a : Account) (got : ℕ) (flags : List ℕ) where
 -- ---- a step
 module _ (r : Run) (s piece : List ℕ) where
   pub step-refused : length s ≢ 2880 → Steps r s piece 2 r s
-  unfolding stepNumber
   step-refused ne = record { number = rw (ne-eqb _ _ ne) refl; run = rw (ne-eqb _ _ ne) refl; store = rw (ne-eqb _ _ ne) refl }
 
   -- the store is copied over 2,880 other bytes, and what the step leaves of them is copied back
   pub step-done : length s ≡ 2880 → (own zeros : List ℕ) → own ≡ copied s zeros → length zeros ≡ 2880 → (b : Bench) → b ≡ runOf r
-      → (b′ : Bench) (own′ : List ℕ) → record { run = b′; store = own′ } ≡ stepped (record { run = b; store = own }) piece → length own′ ≡ 2880
-      → (r′ : Run) (s′ : List ℕ) → r′ ≡ kept b′ → s′ ≡ copied own′ s → Steps r s piece 0 r′ s′
-  unfolding stepNumber steppedFrom
-  step-done l own zeros c z b hb b′ own′ h l′ r′ s′ k d =
-      let st : record { run = b′; store = own′ } ≡ stepped (record { run = runOf r; store = s }) piece =
-      h ∙ ap (λ (x : State). stepped x piece) (rw (hb, c, copied-all s zeros (l ∙ sym z)) refl) in
+      → (a : Stepped) (own′ : List ℕ) → (record { run = a .run; store = own′ } ≡ stepped (record { run = b; store = own }) piece) × (a .refusal ≡ stepRefusal (record { run = b; store = own }) piece)
+      → length own′ ≡ 2880 → (r′ : Run) (s′ : List ℕ) → r′ ≡ kept (a .run) → s′ ≡ copied own′ s → Steps r s piece (a .refusal) r′ s′
+  step-done l own zeros c z b hb a own′ h l′ r′ s′ k d =
+      let same : record { run = b; store = own } ≡ stateOf r s = rw (hb, c, copied-all s zeros (l ∙ sym z)) refl in
+      let st : record { run = a .run; store = own′ } ≡ stepped (stateOf r s) piece = h .0 ∙ ap (λ (x : State). stepped x piece) same in
       record {
-        number = rw (eq-eqb _ _ l) refl;
+        number = rw (eq-eqb _ _ l) (h .1 ∙ ap (λ (x : State). stepRefusal x piece) same);
         run = rw (eq-eqb _ _ l) (k ∙ ap (λ (x : State). kept (x .run)) st);
         store = rw (eq-eqb _ _ l) (d ∙ copied-all own′ s (l′ ∙ sym l) ∙ ap (λ (x : State). x .store) st);
       }

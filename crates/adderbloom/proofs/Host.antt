@@ -16,13 +16,13 @@ use Rattle.account.specs.Account.{verdictNumber}
 use Rattle.bench.specs.declared.Run.{Run as Bench}
 use Rattle.bench.specs.declared.Phase.{Phase}
 use Rattle.bench.specs.declared.Phase.the-variants.{Unordered, Going, Stopped}
-use Rattle.bench.specs.Run.{State, begun, stepped, verdictOf}
+use Rattle.bench.specs.Run.{State, begun, stepped, stepRefusal, verdictOf}
 use Rattle.bench.specs.Walk.{pieces, through, examined}
 use Rattle.bench.specs.Report.{text, writtenBytes, written}
 use Rattle.bench.proofs.Stores.{any-store, store-stays}
 use Rattle.demands.specs.Verdict.{Examination}
 use Rattle.demands.proofs.Verdict.{passes, fails, unmeasured, stepwise, on-the-way}
-use Rattle.adderbloom.specs.Run.{phaseNumber, phaseOf, runOf, kept, steppedFrom, stepNumber, Steps}
+use Rattle.adderbloom.specs.Run.{phaseNumber, phaseOf, runOf, kept, stateOf, Steps}
 use Rattle.adderbloom.specs.Host.{Hosted, HostedRun, HostedVerdict, HostedReport, HostedExists}
 use Rattle.adderbloom.specs.declared.runs.Run.{Run}
 
@@ -36,36 +36,26 @@ phase-back Stopped = refl
 pub kept-back : (b : Bench) → runOf (kept b) ≡ b
 kept-back b = rw (phase-back (b .phase)) refl
 
--- what a host holds
-abbrev state : Run → List ℕ → State
-state r s = record { run = runOf r; store = s }
-
 -- a call with a whole store is a step
-module _ (r : Run) (s piece : List ℕ) (n : ℕ) (r′ : Run) (s′ : List ℕ) (S : Steps r s piece n r′ s′) (l : length s ≡ 2880) where
-  done : stepNumber s ≡ 0
-  unfolding stepNumber
-  done = rw (eq-eqb _ _ l) refl
-
-  step-is : state r′ s′ ≡ stepped (state r s) piece
-  unfolding steppedFrom
-  step-is = rw (S .run, S .store, done, kept-back (stepped (state r s) piece .run)) refl
+step-is : (r : Run) (s piece : List ℕ) (n : ℕ) (r′ : Run) (s′ : List ℕ) → Steps r s piece n r′ s′ → length s ≡ 2880 → stateOf r′ s′ ≡ stepped (stateOf r s) piece
+step-is r s piece n r′ s′ S l = rw (S .run, S .store, eq-eqb _ _ l, kept-back (stepped (stateOf r s) piece .run)) refl
 
 module _ (s : List ℕ) (r : Run) (h : Hosted s r) where
-  whole : (k : ℕ) → k ≤ length (pieces s) → length (h .stores k) ≡ 2880
-  whole zero l = h .store
-  whole (suc k) l =
-      ap (λ (st : State). length (st .store)) (step-is _ _ _ _ _ _ (h .step k l) (whole k (omega arith)))
-      ∙ store-stays (state (h .runs k) (h .stores k)) (getD (pieces s) k []) (whole k (omega arith))
+  stays-whole : (k : ℕ) → k ≤ length (pieces s) → length (h .stores k) ≡ 2880
+  stays-whole zero l = h .store
+  stays-whole (suc k) l =
+      ap (λ (st : State). length (st .store)) (step-is _ _ _ _ _ _ (h .step k l) (stays-whole k (omega arith)))
+      ∙ store-stays (stateOf (h .runs k) (h .stores k)) (getD (pieces s) k []) (stays-whole k (omega arith))
 
   comes-to : runOf r ≡ examined s .run
   comes-to =
       ap runOf (h .last)
-      ∙ ap (λ (st : State). st .run) (sym (stepwise (pieces s) (λ k. state (h .runs k) (h .stores k)) (λ k l. step-is _ _ _ _ _ _ (h .step k l) (whole k (omega arith)))))
+      ∙ ap (λ (st : State). st .run) (sym (stepwise (pieces s) (λ k. stateOf (h .runs k) (h .stores k)) (λ k l. step-is _ _ _ _ _ _ (h .step k l) (stays-whole k (omega arith)))))
       ∙ ap (λ (b : Bench). through (record { run = b; store = h .stores 0 }) (pieces s) .run) (ap runOf (h .opened) ∙ kept-back begun)
       ∙ any-store s (h .stores 0)
 
 pub hosted-run : HostedRun
-hosted-run s r h = ((λ k l. h .step k l .number ∙ done _ _ _ _ _ _ (h .step k l) (whole s r h k (omega arith))), comes-to s r h)
+hosted-run = comes-to
 
 -- a verdict by its number
 by-number : (v w : Verdict) → verdictNumber v ≡ verdictNumber w → v ≡ w
@@ -107,12 +97,12 @@ module _ (s store : List ℕ) (l : length store ≡ 2880) where
   at-whole (suc k) h = ap (λ (st : State). length (st .store)) (on-the-way (pieces s) begins k h) ∙ store-stays (at k) (getD (pieces s) k []) (at-whole k (omega arith))
 
   calls : Hosted s (kept (at (length (pieces s)) .run))
-  unfolding at begins through stepNumber steppedFrom
+  unfolding at begins through
   calls =
       record {
         runs = λ k. kept (at k .run);
         stores = λ k. at k .store;
-        numbers = λ k. 0;
+        numbers = λ k. stepRefusal (stateOf (kept (at k .run)) (at k .store)) (getD (pieces s) k []);
         opened = ap kept (kept-back begun);
         store = l;
         step = λ k h. record {

@@ -25,9 +25,9 @@ pub record Hosted (s : List ℕ) (r : Run) : Type 0 where
   pub step : (k : ℕ) → k < length (pieces s) → Steps (runs k) (stores k) (getD (pieces s) k []) (numbers k) (runs (suc k)) (stores (suc k))
   pub last : r ≡ runs (length (pieces s))
 
--- no step is refused, and the run is the capture's
+-- the run is the capture's
 abbrev pub HostedRun : Type 0
-HostedRun = (s : List ℕ) (r : Run) (h : Hosted s r) → ((k : ℕ) → k < length (pieces s) → h .numbers k ≡ 0) × (runOf r ≡ examined s .run)
+HostedRun = (s : List ℕ) (r : Run) → Hosted s r → runOf r ≡ examined s .run
 
 -- what `lr800_run_verdict` answers of it: 1, 2 and 0 exactly where PASS, FAIL and NOT MEASURED are due
 abbrev pub HostedVerdict : Type 0

@@ -1,15 +1,15 @@
 -- A run as a host in C keeps it, the phase by its number and the store beside it, and a call of its step.
 -- Assumes nothing.
 use mathlib.Core.Path.{_≡_}
-use mathlib.Core.Bool.{cond}
+use mathlib.Core.Bool.{Bool, cond}
 use mathlib.Core.List.{List}
 use Prim.Native.Nat.{ℕ}
 use lib.Dec.{eqb}
-use Rattle.framing.specs.Call.{unless, after}
+use lib.ListN.{length}
 use Rattle.bench.specs.declared.Run.{Run as Bench}
 use Rattle.bench.specs.declared.Phase.{Phase}
 use Rattle.bench.specs.declared.Phase.the-variants.{Unordered, Going, Stopped}
-use Rattle.bench.specs.Run.{State, stepped}
+use Rattle.bench.specs.Run.{State, stepped, stepRefusal}
 use Rattle.adderbloom.specs.declared.runs.Run.{Run}
 
 -- the phase's number (house: what is all zero has no order)
@@ -30,16 +30,16 @@ runOf r = record { phase = phaseOf (r .phase); asked = r .asked; allowed = r .al
 abbrev pub kept : Bench → Run
 kept r = record { phase = phaseNumber (r .phase); asked = r .asked; allowed = r .allowed; account = r .account }
 
--- one record's bytes and their effect on the run and the store that a host keeps
-unfoldable pub steppedFrom : Run → List ℕ → List ℕ → State
-steppedFrom r store piece = stepped (record { run = runOf r; store = store }) piece
+-- the run and the store that a host keeps
+abbrev pub stateOf : Run → List ℕ → State
+stateOf r store = record { run = runOf r; store = store }
 
--- 2 for a store of another length; 0 is done
-unfoldable pub stepNumber : List ℕ → ℕ
-stepNumber store = unless 2880 store 2 0
+-- whether a call is made at all: 2 for a store of another length
+abbrev pub whole : List ℕ → Bool
+whole store = eqb (length store) 2880
 
--- a call of the step with the run r, the store s and one record's bytes: the number answered, and the run and the store at exit; a refused call changes nothing
+-- a call of the step with the run r, the store s and one record's bytes: the number answered, and the run and the store at exit; with a store of another length nothing is changed
 pub record Steps (r : Run) (s piece : List ℕ) (n : ℕ) (r′ : Run) (s′ : List ℕ) : Type 0 where
-  pub number : n ≡ stepNumber s
-  pub run : r′ ≡ cond (eqb (stepNumber s) 0) (kept (steppedFrom r s piece .run)) r
-  pub store : s′ ≡ after (stepNumber s) (steppedFrom r s piece .store) s
+  pub number : n ≡ cond (whole s) (stepRefusal (stateOf r s) piece) 2
+  pub run : r′ ≡ cond (whole s) (kept (stepped (stateOf r s) piece .run)) r
+  pub store : s′ ≡ cond (whole s) (stepped (stateOf r s) piece .store) s

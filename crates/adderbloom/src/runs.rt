@@ -105,11 +105,12 @@ fn stepped(r: Run, store: &mut [u8], piece: &[u8]) -> Answer
     }
     let mut own = [0u8; 2880];
     bits::copy(store, &mut own);
-    let b = bench::step(run_of(r), &mut own, piece);
+    let s = bench::step(run_of(r), &mut own, piece);
     put_store(&own, store);
+    let b = s.run;
     let after = kept(b);
     Answer {
-        refusal: 0,
+        refusal: s.refusal,
         run: after,
     }
 }
@@ -122,7 +123,8 @@ pub extern "C" fn lr800_run_open(r: &mut Run)
     *r = opened();
 }
 
-// One record's bytes, and what they change of the run and the store lent beside it. Refused: 2 another length of the store.
+// One record's bytes, and what they change of the run and the store lent beside it. Refused: 2 another length of the store, which changes nothing; 6 to 11 a record or its
+// entry, which stops the run.
 #[no_mangle]
 pub extern "C" fn lr800_run_step(r: &mut Run, store: &mut [u8], piece: &[u8]) -> u32
     ensures { λ n. ⌜ Steps (now (r .entry)) (now (store .entry)) (now (piece .entry)) n (now (r .exit)) (now (store .exit)) ⌝ }

@@ -5,6 +5,7 @@ use mathlib.Core.Bool.{Bool, true, false, cond}
 use mathlib.Core.List.{List}
 use Prim.Native.Nat.{ℕ}
 use native.Mathlib.Omega.{arith}
+use lib.Dec.{eqb}
 use lib.ListN.{length}
 use borrow.Author.Tests.{ne-eqb}
 use Rattle.symbols.specs.Pilots.{locks}
@@ -15,7 +16,8 @@ use Rattle.account.specs.declared.Entry.{Entry}
 use Rattle.account.specs.declared.Tallies.{Tallies}
 use Rattle.account.specs.Account.{talliesOf, frameEntered, lossEntered}
 use Rattle.bench.specs.declared.Run.{Run}
-use Rattle.bench.specs.Run.{stopped, going, framed}
+use Rattle.bench.specs.declared.Stepped.{Stepped}
+use Rattle.bench.specs.Run.{State, stopped, going, afterEntry, framed, entryOf}
 
 -- lock by the number answered
 locked : (l : Bool) (r : ℕ) → r ≡ cond l 0 5 → r ≡ 0 → l ≡ true
@@ -26,31 +28,39 @@ unlocked : (l : Bool) (r : ℕ) → r ≡ cond l 0 5 → (r ≡ 0 → ⊥) → l
 unlocked true r e n = absurd (n e)
 unlocked false r e n = refl
 
+-- with one store, a choice of runs is a choice of states
+whichever : (b : Bool) (x y : Run) (s : List ℕ) → _≡_ {A = State} (record { run = cond b x y; store = s }) (cond b (record { run = x; store = s }) (record { run = y; store = s }))
+whichever true x y s = refl
+whichever false x y s = refl
+
 module _ (run : Run) (s k f o g : List ℕ) (got number : ℕ) (s′ o′ g′ : List ℕ) (copy : k ≡ s) (R : Receives base f k o g number s′ o′ g′)
     (frame : length f ≡ 6144) (store : length k ≡ 2880) (lanes : length o ≡ 5280) (flags : length g ≡ 384) where
   by-lock : number ≡ cond (locks f 0) 0 5
   by-lock = R .number ∙ all-lengths f k o g frame store lanes flags
 
-  module _ (e : Entry) (new : Run) where
-    module _ (n : number ≡ 0 → ⊥) (is : e ≡ lossEntered (run .account) got) where
-      pub lost-stops : (e .refusal ≡ 0 → ⊥) → new ≡ stopped run → record { run = new; store = s } ≡ framed (record { run = run; store = s }) got f
-      unfolding framed
-      lost-stops r q = rw (q, unlocked (locks f 0) number by-lock n, sym is, ne-eqb (e .refusal) 0 r) refl
+  -- what a frame's step answers and leaves
+  abbrev Left : Stepped → List ℕ → Type 0
+  Left r left = (record { run = r .run; store = left } ≡ framed (record { run = run; store = s }) got f) × (r .refusal ≡ entryOf (run .account) got f .refusal)
 
-      pub lost-goes : e .refusal ≡ 0 → new ≡ going run (e .account) → record { run = new; store = s } ≡ framed (record { run = run; store = s }) got f
-      unfolding framed
-      lost-goes r q = rw (q, unlocked (locks f 0) number by-lock n, sym is, r) refl
+  module _ (e : Entry) (r : Stepped) (answer : r ≡ record { refusal = e .refusal; run = afterEntry run e }) where
+    pub lost : (number ≡ 0 → ⊥) → e ≡ lossEntered (run .account) got → Left r s
+    unfolding framed entryOf
+    lost n is =
+        let l = unlocked (locks f 0) number by-lock n in
+        (rw (answer, l, sym is) (whichever (eqb (e .refusal) 0) (going run (e .account)) (stopped run) s), rw (answer, l, sym is) refl)
 
     module _ (z : number ≡ 0) (t : Tallies) (tallies : t ≡ talliesOf (run .account) got g′) (is : e ≡ frameEntered (run .account) got t) where
       entry : e ≡ frameEntered (run .account) got (talliesOf (run .account) got (receivedFlags f))
       entry = is ∙ ap (frameEntered (run .account) got) (tallies ∙ ap (talliesOf (run .account) got) (done base f k o g number s′ o′ g′ z R .2))
 
-      pub frame-stops : (e .refusal ≡ 0 → ⊥) → new ≡ stopped run → record { run = new; store = s } ≡ framed (record { run = run; store = s }) got f
-      unfolding framed
-      frame-stops r q = rw (q, locked (locks f 0) number by-lock z, sym entry, ne-eqb (e .refusal) 0 r) refl
+      pub frame-refused : (e .refusal ≡ 0 → ⊥) → Left r s
+      unfolding framed entryOf
+      frame-refused n = let l = locked (locks f 0) number by-lock z in (rw (answer, l, sym entry, ne-eqb (e .refusal) 0 n) refl, rw (answer, l, sym entry) refl)
 
-      pub frame-goes : (left : List ℕ) → left ≡ s′ → e .refusal ≡ 0 → new ≡ going run (e .account) → record { run = new; store = left } ≡ framed (record { run = run; store = s }) got f
-      unfolding framed
-      frame-goes left l r q =
-          rw (q, locked (locks f 0) number by-lock z, sym entry, r)
-          (ap (λ (x : List ℕ). record { run = going run (e .account); store = x }) (l ∙ done base f k o g number s′ o′ g′ z R .0 ∙ ap (receivedStore f) copy))
+      pub frame-taken : (left : List ℕ) → left ≡ s′ → e .refusal ≡ 0 → Left r left
+      unfolding framed entryOf
+      frame-taken left h y =
+          let l = locked (locks f 0) number by-lock z in (
+            rw (answer, l, sym entry, y) (ap (λ (x : List ℕ). record { run = going run (e .account); store = x }) (h ∙ done base f k o g number s′ o′ g′ z R .0 ∙ ap (receivedStore f) copy)),
+            rw (answer, l, sym entry) refl,
+          )

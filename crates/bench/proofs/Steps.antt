@@ -1,16 +1,22 @@
 -- A record in a run, phase by phase.
 -- Assumes nothing.
 use mathlib.Core.Path.{_≡_, refl, sym, ap, _∙_, subst}
+use mathlib.Core.Bool.{Bool, true, false, cond}
+use mathlib.Core.Logic.{_≢_}
 use mathlib.Core.List.{List}
 use Prim.Native.Nat.{ℕ, _≤_, min}
 use native.Mathlib.Omega.{arith}
+use borrow.Author.Tests.{ne-eqb}
 use lib.ListN.{length, drop, replicate, length-take, length-drop}
+use Rattle.symbols.specs.Pilots.{locks}
 use Rattle.account.specs.declared.Account.{Account}
+use Rattle.account.specs.declared.Entry.{Entry}
 use Rattle.account.specs.Account.{opened}
 use Rattle.bench.specs.declared.Run.{Run}
 use Rattle.bench.specs.declared.Phase.{Phase}
 use Rattle.bench.specs.declared.Phase.the-variants.{Unordered, Going, Stopped}
-use Rattle.bench.specs.Run.{State, stopped, framed, orderCame, frameCame, halted, cameAs, stepped}
+use Rattle.bench.specs.declared.Stepped.{Stepped}
+use Rattle.bench.specs.Run.{State, stopped, isStopped, noted, framed, entryOf, orderCame, frameCame, frameRefusal, halted, cameAs, refusalOf, stepped, stepRefusal, RefusedOnlyStops}
 use Rattle.capture.specs.declared.Read.{Read}
 use Rattle.capture.specs.declared.Read.the-variants.{End, Refused, Order, Frame}
 use Rattle.capture.specs.Capture.{readAt, symbolsAt}
@@ -45,36 +51,49 @@ module _ (p : Phase) (run new : Run) (s : List ℕ) where
     unfolding frameCame
     frame-after e = rw e refl
 
-module _ (p : Phase) (run new : Run) where
-  pub halts-early : p ≡ Unordered → new ≡ stopped run → new ≡ halted p run
-  unfolding halted
-  halts-early e h = rw e h
+-- a refused record stops a run that is not stopped
+pub halts : (p : Phase) (run : Run) → halted p run ≡ cond (isStopped p) run (stopped run)
+unfolding halted isStopped
+halts Unordered run = refl
+halts Going run = refl
+halts Stopped run = refl
 
-  pub halts-going : p ≡ Going → new ≡ stopped run → new ≡ halted p run
-  unfolding halted
-  halts-going e h = rw e h
+-- by which refusal a frame stops it
+module _ (p : Phase) (st : State) (got : ℕ) (f : List ℕ) where
+  pub none-early : p ≡ Unordered → _≡_ {A = ℕ} 0 (frameRefusal p st got f)
+  unfolding frameRefusal
+  none-early e = rw e refl
 
-  pub halts-after : p ≡ Stopped → run ≡ halted p run
-  unfolding halted
-  halts-after e = rw e refl
+  pub entry-in-time : p ≡ Going → (n : ℕ) → n ≡ entryOf (st .run .account) got f .refusal → n ≡ frameRefusal p st got f
+  unfolding frameRefusal
+  entry-in-time e n h = rw e h
+
+  pub none-after : p ≡ Stopped → _≡_ {A = ℕ} 0 (frameRefusal p st got f)
+  unfolding frameRefusal
+  none-after e = rw e refl
 
 -- what was read decides
 module _ (st : State) (s : List ℕ) (read : Read) (is : read ≡ readAt s 0) where
-  pub step-end : read ≡ End → st ≡ stepped st s
-  unfolding stepped cameAs
-  step-end h = rw (sym is ∙ h) refl
+  -- what a step answers and leaves
+  abbrev Left : ℕ → State → Type 0
+  Left n to = (to ≡ stepped st s) × (n ≡ stepRefusal st s)
 
-  pub step-refused : (n : ℕ) → read ≡ Refused n → (new : Run) → new ≡ halted (st .run .phase) (st .run) → record { run = new; store = st .store } ≡ stepped st s
-  unfolding stepped cameAs
-  step-refused n h new q = rw (sym is ∙ h, q) refl
+  pub step-end : read ≡ End → Left 0 st
+  unfolding stepped cameAs stepRefusal refusalOf
+  step-end h = (rw (sym is ∙ h) refl, rw (sym is ∙ h) refl)
 
-  pub step-order : (start asked allowed next : ℕ) → read ≡ Order start asked allowed next → (to : State) → to ≡ orderCame (st .run .phase) st start asked allowed → to ≡ stepped st s
-  unfolding stepped cameAs
-  step-order start asked allowed next h to q = rw (sym is ∙ h) q
+  pub step-refused : (n : ℕ) → read ≡ Refused n → (r : Stepped) → r ≡ record { refusal = cond (isStopped (st .run .phase)) 0 n; run = halted (st .run .phase) (st .run) } → Left (r .refusal) (record { run = r .run; store = st .store })
+  unfolding stepped cameAs stepRefusal refusalOf
+  step-refused n h r q = (rw (sym is ∙ h, q) refl, rw (sym is ∙ h, q) refl)
 
-  pub step-frame : (number from next : ℕ) → read ≡ Frame number from next → (f : List ℕ) → f ≡ symbolsAt s from → (to : State) → to ≡ frameCame (st .run .phase) st number f → to ≡ stepped st s
-  unfolding stepped cameAs
-  step-frame number from next h f e to q = rw (sym is ∙ h) (q ∙ ap (frameCame (st .run .phase) st number) e)
+  pub step-order : (start asked allowed next : ℕ) → read ≡ Order start asked allowed next → (to : State) → to ≡ orderCame (st .run .phase) st start asked allowed → Left 0 to
+  unfolding stepped cameAs stepRefusal refusalOf
+  step-order start asked allowed next h to q = (rw (sym is ∙ h) q, rw (sym is ∙ h) refl)
+
+  pub step-frame : (number from next : ℕ) → read ≡ Frame number from next → (f : List ℕ) → f ≡ symbolsAt s from → (n : ℕ) (to : State) → (to ≡ frameCame (st .run .phase) st number f) × (n ≡ frameRefusal (st .run .phase) st number f) → Left n to
+  unfolding stepped cameAs stepRefusal refusalOf
+  step-frame number from next h f e n to q =
+      (rw (sym is ∙ h) (q .0 ∙ ap (frameCame (st .run .phase) st number) e), rw (sym is ∙ h) (q .1 ∙ ap (frameRefusal (st .run .phase) st number) e))
 
   -- a frame's symbols are all there
   pub whole-frame : (number from next : ℕ) → read ≡ Frame number from next → length (symbolsAt s from) ≡ 6144
@@ -87,3 +106,28 @@ module _ (st : State) (s : List ℕ) (read : Read) (is : read ≡ readAt s 0) wh
     where
       least : (n : ℕ) → 6144 ≤ n → min 6144 n ≡ 6144
       least n l = omega arith
+
+-- ---- a refused record only stops the run
+
+noted-refused : (st : State) (e : Entry) (s : List ℕ) → e .refusal ≢ 0 → noted st e s ≡ record { run = stopped (st .run); store = st .store }
+noted-refused st e s n = rw (ne-eqb (e .refusal) 0 n) refl
+
+framed-refused : (l : Bool) (st : State) (got : ℕ) (f : List ℕ) → locks f 0 ≡ l → entryOf (st .run .account) got f .refusal ≢ 0 → framed st got f ≡ record { run = stopped (st .run); store = st .store }
+unfolding framed entryOf
+framed-refused true st got f e n = rw e (noted-refused st _ _ (λ z. n (rw e z)))
+framed-refused false st got f e n = rw e (noted-refused st _ _ (λ z. n (rw e z)))
+
+came-refused : (read : Read) (p : Phase) (st : State) (s : List ℕ) → st .run .phase ≡ p → refusalOf read st s ≢ 0 → cameAs read st s ≡ record { run = stopped (st .run); store = st .store }
+unfolding refusalOf frameRefusal cameAs halted frameCame isStopped
+came-refused End p st s e n = absurd (n refl)
+came-refused (Refused refusal) Unordered st s e n = rw e refl
+came-refused (Refused refusal) Going st s e n = rw e refl
+came-refused (Refused refusal) Stopped st s e n = absurd (n (rw e refl))
+came-refused (Order start asked allowed next) p st s e n = absurd (n refl)
+came-refused (Frame number from next) Unordered st s e n = absurd (n (rw e refl))
+came-refused (Frame number from next) Going st s e n = ap (λ (p : Phase). frameCame p st number (symbolsAt s from)) e ∙ framed-refused (locks (symbolsAt s from) 0) st number (symbolsAt s from) refl (λ z. n (ap (λ (p : Phase). frameRefusal p st number (symbolsAt s from)) e ∙ z))
+came-refused (Frame number from next) Stopped st s e n = absurd (n (rw e refl))
+
+pub refused-only-stops : RefusedOnlyStops
+unfolding stepped stepRefusal
+refused-only-stops st s n = came-refused (readAt s 0) (st .run .phase) st s refl n

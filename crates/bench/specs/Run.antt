@@ -1,6 +1,8 @@
 -- The run of a capture: each record's effect (01, account and verdict).
 -- Assumes nothing.
+use mathlib.Core.Path.{_≡_}
 use mathlib.Core.Bool.{Bool, true, false, cond, not}
+use mathlib.Core.Logic.{_≢_}
 use mathlib.Core.List.{List}
 use Prim.Native.Nat.{ℕ}
 use lib.Dec.{eqb}
@@ -38,6 +40,10 @@ stopped r = record { phase = Stopped; asked = r .asked; allowed = r .allowed; ac
 -- going on with another account
 abbrev pub going : Run → Account → Run
 going r a = record { phase = Going; asked = r .asked; allowed = r .allowed; account = a }
+
+-- an entry's effect on the run: a refused one stops it
+abbrev pub afterEntry : Run → Entry → Run
+afterEntry r e = cond (eqb (e .refusal) 0) (going r (e .account)) (stopped r)
 
 -- an entry's effect, with the store that receiving left: a refused one only stops the run
 abbrev pub noted : State → Entry → List ℕ → State
@@ -84,6 +90,31 @@ unfoldable pub isStopped : Phase → Bool
 isStopped Unordered = false
 isStopped Going = false
 isStopped Stopped = true
+
+-- one frame's entry: with the tallies of its flags, or, without lock, as a loss
+unfoldable pub entryOf : Account → ℕ → List ℕ → Entry
+entryOf a got f = cond (locks f 0) (frameEntered a got (talliesOf a got (receivedFlags f))) (lossEntered a got)
+
+-- by which refusal a frame stops the run: its entry's; before any order, and once the run is stopped, by none
+unfoldable pub frameRefusal : Phase → State → ℕ → List ℕ → ℕ
+frameRefusal Unordered st got f = 0
+frameRefusal Going st got f = entryOf (st .run .account) got f .refusal
+frameRefusal Stopped st got f = 0
+
+-- by which refusal a record stops the run: 6 to 9 its own, 10 to 12 its entry's, 0 by none. A second order and a frame before any order have no number
+unfoldable pub refusalOf : Read → State → List ℕ → ℕ
+refusalOf End st s = 0
+refusalOf (Refused refusal) st s = cond (isStopped (st .run .phase)) 0 refusal
+refusalOf (Order start asked allowed next) st s = 0
+refusalOf (Frame number from next) st s = frameRefusal (st .run .phase) st number (symbolsAt s from)
+
+-- a step's refusal
+unfoldable pub stepRefusal : State → List ℕ → ℕ
+stepRefusal st s = refusalOf (readAt s 0) st s
+
+-- a refused record only stops the run: its figures, its account and the store stay
+abbrev pub RefusedOnlyStops : Type 0
+RefusedOnlyStops = (st : State) (s : List ℕ) → stepRefusal st s ≢ 0 → stepped st s ≡ record { run = stopped (st .run); store = st .store }
 
 -- an order came, and nothing has stopped the run since
 unfoldable pub goesOn : Phase → Bool

@@ -4,8 +4,9 @@ mod text;
 pub use text::LONGEST;
 pub use text::report;
 ghost use mathlib.Core.Path.{_≡_};
+ghost use mathlib.Core.Bool.{cond};
 ghost use lib.ListN.{length};
-ghost use Rattle.bench.specs.Run.{begun, going, stopped, isStopped, framed, orderCame, frameCame, halted, stepped, goesOn, verdictOf};
+ghost use Rattle.bench.specs.Run.{begun, going, stopped, afterEntry, isStopped, framed, entryOf, orderCame, frameCame, frameRefusal, halted, stepped, stepRefusal, goesOn, verdictOf};
 ghost use Rattle.bench.specs.Walk.{examined};
 
 // No order yet; going on; stopped by a refusal, a second order or a record before the order.
@@ -21,6 +22,12 @@ pub struct Run {
     pub asked: u32,
     pub allowed: u32,
     pub account: account::Account,
+}
+
+// A step's answer: the number by which the record was refused, or 0, and the run.
+pub struct Stepped {
+    pub refusal: u32,
+    pub run: Run,
 }
 
 // A store over another, whole.
@@ -80,10 +87,29 @@ fn going(run: Run, a: account::Account) -> Run
     }
 }
 
+// What an entry makes of a run: a refused one stops it.
+fn noted(run: Run, e: account::Entry) -> Stepped
+    ensures { λ r. ⌜ r ≡ record { refusal = e .refusal; run = afterEntry run e } ⌝ }
+{
+    if e.refusal != 0 {
+        let halt = stopped(run);
+        return Stepped {
+            refusal: e.refusal,
+            run: halt,
+        };
+    }
+    let a = e.account;
+    let on = going(run, a);
+    Stepped {
+        refusal: 0,
+        run: on,
+    }
+}
+
 // A frame received and entered, or, without lock, entered as a loss. A refused entry stops the run, and the store stays as it was.
-fn framed(run: Run, store: &mut [u8; 2880], got: u32, symbols: &[u8]) -> Run
+fn framed(run: Run, store: &mut [u8; 2880], got: u32, symbols: &[u8]) -> Stepped
     requires { ⌜ length (now symbols) ≡ 6144 ⌝ }
-    ensures { λ r. ⌜ record { run = r; store = now (store .exit) } ≡ framed (record { run = run; store = now (store .entry) }) got (now (symbols .entry)) ⌝ }
+    ensures { λ r. ⌜ (record { run = r .run; store = now (store .exit) } ≡ framed (record { run = run; store = now (store .entry) }) got (now (symbols .entry))) × (r .refusal ≡ entryOf (run .account) got (now (symbols .entry)) .refusal) ⌝ }
 {
     let a = run.account;
     let mut kept = [0u8; 2880];
@@ -93,20 +119,15 @@ fn framed(run: Run, store: &mut [u8; 2880], got: u32, symbols: &[u8]) -> Run
     let number = framing::receive(symbols, &mut kept, &mut lanes, &mut flags);
     if number != 0 {
         let e = account::lose(a, got);
-        if e.refusal != 0 {
-            return stopped(run);
-        }
-        let b = e.account;
-        return going(run, b);
+        return noted(run, e);
     }
     let t = account::tallies_of(a, got, &flags);
     let e = account::enter(a, got, t);
     if e.refusal != 0 {
-        return stopped(run);
+        return noted(run, e);
     }
     copy_store(&kept, store);
-    let b = e.account;
-    going(run, b)
+    noted(run, e)
 }
 
 // An order came: the first is taken, with a new account and a fresh store; a second one stops the run.
@@ -132,44 +153,55 @@ fn ordered(run: Run, store: &mut [u8; 2880], start: u32, asked: u32, allowed: u3
 }
 
 // A frame came: before any order it stops the run.
-fn came(run: Run, store: &mut [u8; 2880], got: u32, symbols: &[u8]) -> Run
+fn came(run: Run, store: &mut [u8; 2880], got: u32, symbols: &[u8]) -> Stepped
     requires { ⌜ length (now symbols) ≡ 6144 ⌝ }
-    ensures { λ r. ⌜ record { run = r; store = now (store .exit) } ≡ frameCame (run .phase) (record { run = run; store = now (store .entry) }) got (now (symbols .entry)) ⌝ }
+    ensures { λ r. ⌜ (record { run = r .run; store = now (store .exit) } ≡ frameCame (run .phase) (record { run = run; store = now (store .entry) }) got (now (symbols .entry))) × (r .refusal ≡ frameRefusal (run .phase) (record { run = run; store = now (store .entry) }) got (now (symbols .entry))) ⌝ }
 {
     let p = run.phase;
     match p {
-        Phase::Unordered => stopped(run),
+        Phase::Unordered => {
+            let halt = stopped(run);
+            Stepped {
+                refusal: 0,
+                run: halt,
+            }
+        }
         Phase::Going => framed(run, store, got, symbols),
-        Phase::Stopped => run,
+        Phase::Stopped => Stepped { refusal: 0, run },
     }
 }
 
 // A refused record came: it stops the run.
-fn halted(run: Run) -> Run
-    ensures { λ r. ⌜ r ≡ halted (run .phase) run ⌝ }
+fn halted(run: Run, refusal: u32) -> Stepped
+    ensures { λ r. ⌜ r ≡ record { refusal = cond (isStopped (run .phase)) 0 refusal; run = halted (run .phase) run } ⌝ }
 {
-    let p = run.phase;
-    match p {
-        Phase::Unordered => stopped(run),
-        Phase::Going => stopped(run),
-        Phase::Stopped => run,
+    if is_stopped(run) {
+        return Stepped { refusal: 0, run };
     }
+    let halt = stopped(run);
+    Stepped { refusal, run: halt }
 }
 
-// One record's bytes alone, and what they change: a refused record only stops the run, and a run that is stopped changes no more.
-pub fn step(run: Run, store: &mut [u8; 2880], piece: &[u8]) -> Run
-    ensures { λ r. ⌜ record { run = r; store = now (store .exit) } ≡ stepped (record { run = run; store = now (store .entry) }) (now (piece .entry)) ⌝ }
+// One record's bytes alone, and what they change: a refused record only stops the run, and a run that is stopped changes no more. The number is the refusal's.
+pub fn step(run: Run, store: &mut [u8; 2880], piece: &[u8]) -> Stepped
+    ensures { λ r. ⌜ (record { run = r .run; store = now (store .exit) } ≡ stepped (record { run = run; store = now (store .entry) }) (now (piece .entry))) × (r .refusal ≡ stepRefusal (record { run = run; store = now (store .entry) }) (now (piece .entry))) ⌝ }
 {
     let read = capture::read_at(piece, 0);
     match read {
-        capture::Read::End => run,
-        capture::Read::Refused(_) => halted(run),
+        capture::Read::End => Stepped { refusal: 0, run },
+        capture::Read::Refused(refusal) => halted(run, refusal),
         capture::Read::Order {
             start,
             asked,
             allowed,
             next: _,
-        } => ordered(run, store, start, asked, allowed),
+        } => {
+            let taken = ordered(run, store, start, asked, allowed);
+            Stepped {
+                refusal: 0,
+                run: taken,
+            }
+        }
         capture::Read::Frame {
             number,
             from,
@@ -210,7 +242,8 @@ pub fn examine_capture(capture: &[u8]) -> Run
     let mut place: usize = 0;
     while place < capture.len() {
         let read = capture::read_at(capture, place);
-        run = step(run, &mut store, &capture[place..]);
+        let stepped = step(run, &mut store, &capture[place..]);
+        run = stepped.run;
         let next = capture::next_place(read, place);
         if next <= place {
             return run;

@@ -78,7 +78,8 @@ fn next_piece(fd: i32, buffer: &mut [u8]) -> Filled
 fn step(run: bench::Run, store: &mut [u8; 2880], piece: &[u8]) -> bench::Run
     ensures { λ r. ⌜ (record { run = r; store = now (store .exit) } ≡ stepped (record { run = run; store = now (store .entry) }) (now (piece .entry))) × AllBytes (now (piece .entry)) ⌝ }
 {
-    bench::step(run, store, piece)
+    let stepped = bench::step(run, store, piece);
+    stepped.run
 }
 
 // What an input came to: a run, and whether a read failed.

@@ -40,13 +40,13 @@ next-place-requires : tie.Need-next-place-requires Inv-loop μ-loop
 next-place-requires c κs = search needs
 
 returns : tie.Need-returns Inv-loop μ-loop
-returns c = ap (λ (x : State). x .run) (walk-stops _ _ _ (c .before .before .before .before .before .before .before .loop .inv) (c .before .before .before .before .before .before .loop-test .taken) _ (c .before .before .before .before .before .read-at .ensures) _ (c .before .before .step .ensures) _ (c .before .next-place .ensures) (search needs))
+returns c = ap (λ (x : State). x .run) (walk-stops _ _ _ (c .before .before .before .before .before .before .before .before .loop .inv) (c .before .before .before .before .before .before .before .loop-test .taken) _ (c .before .before .before .before .before .before .read-at .ensures) _ (c .before .before .before .step .ensures .0) _ (c .before .next-place .ensures) (search needs))
 
 loop-less : tie.Need-loop-less Inv-loop μ-loop
 loop-less c = search needs
 
 loop-again : tie.Need-loop-again Inv-loop μ-loop
-loop-again c = walk-goes _ _ _ (c .before .before .before .before .before .before .before .loop .inv) (c .before .before .before .before .before .before .loop-test .taken) _ (c .before .before .before .before .before .read-at .ensures) _ (c .before .before .step .ensures) _ (c .before .next-place .ensures) (search needs)
+loop-again c = walk-goes _ _ _ (c .before .before .before .before .before .before .before .before .loop .inv) (c .before .before .before .before .before .before .before .loop-test .taken) _ (c .before .before .before .before .before .before .read-at .ensures) _ (c .before .before .before .step .ensures .0) _ (c .before .next-place .ensures) (search needs)
 
 returns-2 : tie.Need-returns-2 Inv-loop μ-loop
 returns-2 c = ap (λ (x : State). x .run) (walk-ends _ _ (record { run = c .before .loop .run; store = c .before .loop .store }) (c .before .loop .inv) (search needs))

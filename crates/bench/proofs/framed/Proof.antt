@@ -2,7 +2,7 @@
 use mathlib.Core.Path.{sym, ap, _∙_}
 use Prim.Native.Nat.{ℕ}
 use lib.ListN.{length, length-replicate}
-use Rattle.bench.proofs.Frames.{lost-stops, lost-goes, frame-stops, frame-goes}
+use Rattle.bench.proofs.Frames.{lost, frame-refused, frame-taken}
 use borrow.Author.Needs.{needs}
 use Rattle.bench.proofs.framed.Statement.{statement}
 use Rattle.bench.proofs.framed.Tie as tie
@@ -25,19 +25,12 @@ receive-requires c κs = search needs
 lose-requires : tie.Need-lose-requires
 lose-requires c κs = search needs
 
-stopped-requires : tie.Need-stopped-requires
-stopped-requires c κs = search needs
+noted-requires : tie.Need-noted-requires
+noted-requires c κs = search needs
 
 returns : tie.Need-returns
 returns c =
-    lost-stops _ _ _ _ _ _ _ _ _ _ _ (c .before .before .before .before .before .before .before .before .before .before .before .before .copy-store .ensures .0) (c .before .before .before .before .before .before .before .before .receive .ensures) (c .before .before .before .before .before .before .before .before .before .before .before .before .before .before .before .before .before .pre) (ap length (c .before .before .before .before .before .before .before .before .before .before .before .before .copy-store .ensures .0) ∙ c .before .before .before .before .before .before .before .before .before .before .before .before .copy-store .ensures .1) (length-replicate {A = ℕ} 5280 0) (length-replicate {A = ℕ} 384 0) _ _ (c .before .before .before .before .if1 .taken) (c .before .before .before .lose .ensures) (c .before .if2 .taken) (c .stopped .ensures)
-
-going-requires : tie.Need-going-requires
-going-requires c κs = search needs
-
-returns-2 : tie.Need-returns-2
-returns-2 c =
-    lost-goes _ _ _ _ _ _ _ _ _ _ _ (c .before .before .before .before .before .before .before .before .before .before .before .before .before .copy-store .ensures .0) (c .before .before .before .before .before .before .before .before .before .receive .ensures) (c .before .before .before .before .before .before .before .before .before .before .before .before .before .before .before .before .before .before .pre) (ap length (c .before .before .before .before .before .before .before .before .before .before .before .before .before .copy-store .ensures .0) ∙ c .before .before .before .before .before .before .before .before .before .before .before .before .before .copy-store .ensures .1) (length-replicate {A = ℕ} 5280 0) (length-replicate {A = ℕ} 384 0) _ _ (c .before .before .before .before .before .if1 .taken) (c .before .before .before .before .lose .ensures) (c .before .before .if2 .left) (c .going .ensures)
+    lost _ _ _ _ _ _ _ _ _ _ _ (c .before .before .before .before .before .before .before .before .before .before .copy-store .ensures .0) (c .before .before .before .before .before .before .receive .ensures) (c .before .before .before .before .before .before .before .before .before .before .before .before .before .before .before .pre) (ap length (c .before .before .before .before .before .before .before .before .before .before .copy-store .ensures .0) ∙ c .before .before .before .before .before .before .before .before .before .before .copy-store .ensures .1) (length-replicate {A = ℕ} 5280 0) (length-replicate {A = ℕ} 384 0) _ _ (c .noted .ensures) (c .before .before .if1 .taken) (c .before .lose .ensures)
 
 tallies-of-requires : tie.Need-tallies-of-requires
 tallies-of-requires c κs = search needs
@@ -45,22 +38,22 @@ tallies-of-requires c κs = search needs
 enter-requires : tie.Need-enter-requires
 enter-requires c κs = search needs
 
-stopped-requires-2 : tie.Need-stopped-requires-2
-stopped-requires-2 c κs = search needs
+noted-requires-2 : tie.Need-noted-requires-2
+noted-requires-2 c κs = search needs
 
-returns-3 : tie.Need-returns-3
-returns-3 c =
-    frame-stops _ _ _ _ _ _ _ _ _ _ _ (c .before .before .before .before .before .before .before .before .before .before .before .before .before .before .copy-store .ensures .0) (c .before .before .before .before .before .before .before .before .before .before .receive .ensures) (c .before .before .before .before .before .before .before .before .before .before .before .before .before .before .before .before .before .before .before .pre) (ap length (c .before .before .before .before .before .before .before .before .before .before .before .before .before .before .copy-store .ensures .0) ∙ c .before .before .before .before .before .before .before .before .before .before .before .before .before .before .copy-store .ensures .1) (length-replicate {A = ℕ} 5280 0) (length-replicate {A = ℕ} 384 0) _ _ (c .before .before .before .before .before .before .if1 .left) _ (c .before .before .before .before .tallies-of .ensures) (c .before .before .before .enter .ensures) (c .before .if3 .taken) (c .stopped2 .ensures)
+returns-2 : tie.Need-returns-2
+returns-2 c =
+    frame-refused _ _ _ _ _ _ _ _ _ _ _ (c .before .before .before .before .before .before .before .before .before .before .before .before .before .before .copy-store .ensures .0) (c .before .before .before .before .before .before .before .before .before .before .receive .ensures) (c .before .before .before .before .before .before .before .before .before .before .before .before .before .before .before .before .before .before .before .pre) (ap length (c .before .before .before .before .before .before .before .before .before .before .before .before .before .before .copy-store .ensures .0) ∙ c .before .before .before .before .before .before .before .before .before .before .before .before .before .before .copy-store .ensures .1) (length-replicate {A = ℕ} 5280 0) (length-replicate {A = ℕ} 384 0) _ _ (c .noted2 .ensures) (c .before .before .before .before .before .before .if1 .left) _ (c .before .before .before .before .tallies-of .ensures) (c .before .before .before .enter .ensures) (c .before .if2 .taken)
 
 copy-store-requires-2 : tie.Need-copy-store-requires-2
 copy-store-requires-2 c κs = search needs
 
-going-requires-2 : tie.Need-going-requires-2
-going-requires-2 c κs = search needs
+noted-requires-3 : tie.Need-noted-requires-3
+noted-requires-3 c κs = search needs
 
-returns-4 : tie.Need-returns-4
-returns-4 c =
-    frame-goes _ _ _ _ _ _ _ _ _ _ _ (c .before .before .before .before .before .before .before .before .before .before .before .before .before .before .before .before .before .before .copy-store .ensures .0) (c .before .before .before .before .before .before .before .before .before .before .before .before .before .before .receive .ensures) (c .before .before .before .before .before .before .before .before .before .before .before .before .before .before .before .before .before .before .before .before .before .before .before .pre) (ap length (c .before .before .before .before .before .before .before .before .before .before .before .before .before .before .before .before .before .before .copy-store .ensures .0) ∙ c .before .before .before .before .before .before .before .before .before .before .before .before .before .before .before .before .before .before .copy-store .ensures .1) (length-replicate {A = ℕ} 5280 0) (length-replicate {A = ℕ} 384 0) _ _ (c .before .before .before .before .before .before .before .before .before .before .if1 .left) _ (c .before .before .before .before .before .before .before .before .tallies-of .ensures) (c .before .before .before .before .before .before .before .enter .ensures) _ (c .before .before .copy-store2 .ensures .0) (c .before .before .before .before .before .if3 .left) (c .going2 .ensures)
+returns-3 : tie.Need-returns-3
+returns-3 c =
+    frame-taken _ _ _ _ _ _ _ _ _ _ _ (c .before .before .before .before .before .before .before .before .before .before .before .before .before .before .before .before .before .copy-store .ensures .0) (c .before .before .before .before .before .before .before .before .before .before .before .before .before .receive .ensures) (c .before .before .before .before .before .before .before .before .before .before .before .before .before .before .before .before .before .before .before .before .before .before .pre) (ap length (c .before .before .before .before .before .before .before .before .before .before .before .before .before .before .before .before .before .copy-store .ensures .0) ∙ c .before .before .before .before .before .before .before .before .before .before .before .before .before .before .before .before .before .copy-store .ensures .1) (length-replicate {A = ℕ} 5280 0) (length-replicate {A = ℕ} 384 0) _ _ (c .noted3 .ensures) (c .before .before .before .before .before .before .before .before .before .if1 .left) _ (c .before .before .before .before .before .before .before .tallies-of .ensures) (c .before .before .before .before .before .before .enter .ensures) _ (c .before .copy-store2 .ensures .0) (c .before .before .before .before .if2 .left)
 
 pub framed-spec : {M : Type 1} → statement M
 framed-spec =
@@ -72,14 +65,12 @@ framed-spec =
     slice-aggregate-receive-3
     receive-requires
     lose-requires
-    stopped-requires
+    noted-requires
     returns
-    going-requires
-    returns-2
     tallies-of-requires
     enter-requires
-    stopped-requires-2
-    returns-3
+    noted-requires-2
+    returns-2
     copy-store-requires-2
-    going-requires-2
-    returns-4)
+    noted-requires-3
+    returns-3)

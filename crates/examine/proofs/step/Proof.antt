@@ -7,7 +7,7 @@ step-requires : tie.Need-step-requires
 step-requires c κs = search needs
 
 returns : tie.Need-returns
-returns c = (c .step .ensures, record { byte = λ m. c .before .before .shared-slice-known .given m .fits })
+returns c = (c .before .step .ensures .0, record { byte = λ m. c .before .before .before .shared-slice-known .given m .fits })
 
 pub step-spec : {M : Type 1} → statement M
 step-spec = tie.close (tie.spec step-requires returns)

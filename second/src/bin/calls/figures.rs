@@ -119,11 +119,16 @@ fn numbers<W: Write>(calls: &mut Calls<W>, random: &mut Xorshift) -> io::Result<
     let (mut run, mut store) = (Kept::new(), [0; STORE_BYTES]);
     let mut sender = [0; STORE_BYTES];
     let [first, second]: [[u8; FRAME_SYMBOLS]; 2] = [(); 2].map(|()| sent(random, &mut sender));
-    calls.run_step(&mut run, &mut store, &order(last, 2, 0))?;
-    calls.run_step(&mut run, &mut store, &frame_record(last, &first))?;
-    calls.run_step(&mut run, &mut store, &frame_record(0, &second))?;
+    for record in [
+        order(last, 2, 0),
+        frame_record(last, &first),
+        frame_record(0, &second),
+    ] {
+        assert_eq!(calls.run_step(&mut run, &mut store, &record)?, 0);
+    }
     assert_eq!((run.phase, calls.run_verdict(&run)?), (GOING, PASS));
-    calls.run_step(&mut run, &mut store, &frame_record(0, &second))?;
+    let twice = frame_record(0, &second);
+    assert_eq!(calls.run_step(&mut run, &mut store, &twice)?, 10);
     assert_eq!(run.phase, STOPPED);
     Ok(())
 }

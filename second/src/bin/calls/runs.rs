@@ -1,5 +1,5 @@
-//! Steps of runs: from every phase over every kind of record, with every store, at every limit, and
-//! long runs with their verdict and report after every step.
+//! Steps of runs: from every phase over every kind of record, with every store, at every limit, by
+//! every refusal, and long runs with their verdict and report after every step.
 
 use crate::accounts::{account, edges, odd_account, AHEAD, MOST, STARTS};
 use crate::frames::{damage_pilots, damage_words, flip_any, sent, Symbols};
@@ -8,8 +8,8 @@ use crate::out::Calls;
 use crate::records::{order, unlawful};
 use crate::reports::ROOM;
 use crate::verdicts::any;
-use second::account::{count_flags, Account, FAIL, NOT_MEASURED, PASS};
-use second::capture::{frame_record, KIND_PLACE, VERSION_PLACE};
+use second::account::{count_flags, enter_flags, lose, Account, FAIL, LATE, NOT_MEASURED, PASS};
+use second::capture::{frame_record, read, FRAME, KIND_PLACE, VERSION_PLACE};
 use second::kept::{Kept, GOING, STOPPED, UNORDERED};
 use second::lanes::{LANES_BYTES, STORE_BYTES};
 use second::receive::receive;
@@ -34,6 +34,82 @@ pub const PHASES: [u32; 13] = [
     u32::MAX - 1,
     u32::MAX,
 ];
+
+/// What a step must answer, by the calls that tell a record's refusal and that of its entry.
+fn right_number(run: &Kept, store: &[u8], piece: &[u8]) -> u32 {
+    if store.len() != STORE_BYTES {
+        return 2;
+    }
+    if run.phase > GOING {
+        return 0;
+    }
+    let record = read(piece, 0);
+    if run.phase == UNORDERED || record.kind != FRAME {
+        return record.refusal;
+    }
+    let symbols = &piece[record.symbols..record.next];
+    let mut lanes = [0; LANES_BYTES];
+    let mut flags = [0; FRAME_WORDS];
+    let (refusal, _) = match receive(symbols, &mut store.to_vec(), &mut lanes, &mut flags) {
+        0 => enter_flags(run.account, record.number, &flags),
+        _ => lose(run.account, record.number),
+    };
+    refusal
+}
+
+/// A step; a refusal leaves the run stopped or, by 2, as it was, and nothing else is changed.
+fn step<W: Write>(
+    calls: &mut Calls<W>,
+    run: &mut Kept,
+    store: &mut [u8],
+    piece: &[u8],
+) -> io::Result<u32> {
+    let (before, store_before) = (*run, store.to_vec());
+    let number = calls.run_step(run, store, piece)?;
+    assert_eq!(number, right_number(&before, &store_before, piece));
+    let phase = match number {
+        0 => run.phase,
+        2 => before.phase,
+        _ => STOPPED,
+    };
+    assert_eq!(run.phase, phase);
+    if number != 0 {
+        assert!(*run == Kept { phase, ..before } && *store == store_before);
+    }
+    Ok(number)
+}
+
+/// A step from this run and any store, which must answer this number.
+fn must<W: Write>(
+    calls: &mut Calls<W>,
+    random: &mut Xorshift,
+    number: u32,
+    before: &Kept,
+    piece: &[u8],
+) -> io::Result<Kept> {
+    let mut run = *before;
+    let mut store = random.bytes(STORE_BYTES);
+    assert_eq!(step(calls, &mut run, &mut store, piece)?, number);
+    Ok(run)
+}
+
+/// The same from a run of any stopped phase, which answers 0, and with a store of a wrong length.
+fn must_not<W: Write>(
+    calls: &mut Calls<W>,
+    random: &mut Xorshift,
+    before: &Kept,
+    piece: &[u8],
+) -> io::Result<()> {
+    let phase = random.pick(&PHASES[2..]);
+    must(calls, random, 0, &Kept { phase, ..*before }, piece)?;
+    let length = random.pick(&wrong_lengths(STORE_BYTES));
+    let mut store = random.bytes(length);
+    for phase in [before.phase, phase] {
+        let mut run = Kept { phase, ..*before };
+        assert_eq!(step(calls, &mut run, &mut store, piece)?, 2);
+    }
+    Ok(())
+}
 
 /// Words with no flip, one, two and three, so that every tally moves, and nearly no lock.
 fn damaged(random: &mut Xorshift) -> Symbols {
@@ -117,7 +193,7 @@ fn from_every_phase<W: Write>(calls: &mut Calls<W>, random: &mut Xorshift) -> io
             for piece in pieces(random, before.account.expected) {
                 let mut run = before;
                 let mut store = random.bytes(STORE_BYTES);
-                assert_eq!(calls.run_step(&mut run, &mut store, &piece)?, 0);
+                step(calls, &mut run, &mut store, &piece)?;
                 assert!(run.phase <= STOPPED);
             }
             calls.run_open(&mut before.clone())?;
@@ -137,8 +213,157 @@ fn with_every_store<W: Write>(calls: &mut Calls<W>, random: &mut Xorshift) -> io
             let frame = frame_record(run.account.expected, &good);
             for piece in [&[], &first[..], &first[..5], &[0; 4], &frame] {
                 let mut store = random.bytes(length);
-                assert_eq!(calls.run_step(&mut run, &mut store, piece)?, 2);
+                assert_eq!(step(calls, &mut run, &mut store, piece)?, 2);
             }
+        }
+    }
+    Ok(())
+}
+
+/// Records that are refused, by every number, and by the lowest where several apply.
+fn refused(random: &mut Xorshift) -> Vec<(u32, Vec<u8>)> {
+    let first = order(random.pick(&STARTS), any(random) as u32, any(random) as u32);
+    let frame = frame_record(random.pick(&STARTS), &damaged(random));
+    let mut pieces = vec![];
+    for record in [&first, &frame] {
+        let right = record[KIND_PLACE];
+        let whole = record.len();
+        let mut headed = |number, version, kind, length: usize| {
+            let spoilt = spoilt(&spoilt(record, VERSION_PLACE, version), KIND_PLACE, kind);
+            pieces.push((number, spoilt[..length].to_vec()));
+        };
+        for length in (1..12).chain([whole - 1]) {
+            headed(6, 1, right, length);
+        }
+        for (version, kind) in [(0, right), (1, 2), (2, right ^ 1)] {
+            for length in [3, 5, 6, whole - 1] {
+                headed(6, version, kind, length);
+            }
+        }
+        // Of an order every byte, of a frame some.
+        let few = [0, 1, 2, 3, 6, 9, 10, 0x7F, 0x80, 0x81, 0xFE, 0xFF];
+        for other in 0..=255 {
+            if record == &frame && !few.contains(&other) {
+                continue;
+            }
+            if other != 1 {
+                headed(8, other, random.pick(&[right, right ^ 1, other]), whole);
+            }
+            if other != right {
+                headed(9, 1, other, whole);
+            }
+        }
+        for length in unlawful(random) {
+            let mut long = record.clone();
+            long[..4].copy_from_slice(&length.to_be_bytes());
+            let kept = random.pick(&[4, 5, 6, 9, 17, 18, whole]);
+            pieces.push((7, long[..kept.min(whole)].to_vec()));
+        }
+    }
+    // Behind a record that is whole there may be anything.
+    for (number, piece) in pieces.clone() {
+        if number > 6 && random.below(4) == 0 {
+            let more = random.below(40) as usize;
+            pieces.push((number, [piece, random.bytes(more)].concat()));
+        }
+    }
+    pieces
+}
+
+/// By 6 to 9: before the order, going on, and not where the run was stopped.
+fn by_records<W: Write>(calls: &mut Calls<W>, random: &mut Xorshift) -> io::Result<()> {
+    for (number, piece) in refused(random) {
+        for phase in [UNORDERED, GOING] {
+            let account = match random.below(2) {
+                0 => small(random),
+                _ => odd_account(random),
+            };
+            let before = Kept {
+                account,
+                ..odd_run(random, phase)
+            };
+            let stopped = must(calls, random, number, &before, &piece)?;
+            if random.below(4) == 0 {
+                must(calls, random, 0, &stopped, &piece)?;
+                must_not(calls, random, &before, &piece)?;
+            }
+        }
+    }
+    Ok(())
+}
+
+/// What the entry of a frame adds to accepted, missing and the tallies; of any store.
+fn added(symbols: &Symbols, d: u64) -> [u64; 6] {
+    let (mut lanes, mut flags) = ([0; LANES_BYTES], [0; FRAME_WORDS]);
+    match receive(symbols, &mut [0; STORE_BYTES], &mut lanes, &mut flags) {
+        0 => {
+            let [clean, one, two, flagged] = count_flags(&flags);
+            [1, d, clean, one, two, flagged]
+        }
+        _ => [0, d + 1, 0, 0, 0, 0],
+    }
+}
+
+/// By 10 and 11, with lock and without, alone and at once; limits just met are no refusal, nor is
+/// anything before an order or where the run was stopped.
+fn by_entries<W: Write>(calls: &mut Calls<W>, random: &mut Xorshift) -> io::Result<()> {
+    for symbols in [damaged(random), lost(random)] {
+        for d in [0, 1, 2, 999_999, LATE, LATE + 1, u32::MAX] {
+            let late = d >= LATE;
+            let more = added(&symbols, if late { 0 } else { d.into() });
+            // All at their limits after the entry, all small, and one above beside both.
+            let met = [0, 1, 2, 3, 4, 5].map(|which| MOST[which] - more[which]);
+            let mut cases = vec![(false, met), (false, [0; 6])];
+            for which in 0..6 {
+                for others in [met, [0; 6]] {
+                    for (above, by) in [(false, 0), (true, 1), (true, more[which].max(1))] {
+                        let mut numbers = others;
+                        numbers[which] = met[which] + by;
+                        cases.push((above, numbers));
+                    }
+                }
+            }
+            for (above, numbers) in cases {
+                let start = random.pick(&STARTS);
+                let before = Kept {
+                    account: account(start, numbers),
+                    ..odd_run(random, GOING)
+                };
+                let record = frame_record(start.wrapping_add(d), &symbols);
+                let number = match (late, above) {
+                    (true, _) => 10,
+                    (false, true) => 11,
+                    (false, false) => 0,
+                };
+                let after = must(calls, random, number, &before, &record)?;
+                if random.below(4) == 0 {
+                    // Once more: late now where it was entered, and no more where it was refused.
+                    let again = if number == 0 { 10 } else { 0 };
+                    must(calls, random, again, &after, &record)?;
+                    must_not(calls, random, &before, &record)?;
+                    let phase = UNORDERED;
+                    let first = must(calls, random, 0, &Kept { phase, ..before }, &record)?;
+                    assert_eq!(first.phase, STOPPED);
+                }
+            }
+        }
+    }
+    Ok(())
+}
+
+/// A second order has no number, whatever it says and wherever the account stands.
+fn second_orders<W: Write>(calls: &mut Calls<W>, random: &mut Xorshift) -> io::Result<()> {
+    for d in AHEAD {
+        for account in [small(random), account(9, MOST), odd_account(random)] {
+            let before = Kept {
+                account,
+                ..odd_run(random, GOING)
+            };
+            let start = account.expected.wrapping_add(d);
+            let record = order(start, before.asked, before.allowed);
+            let after = must(calls, random, 0, &before, &record)?;
+            assert_eq!(after.phase, STOPPED);
+            must_not(calls, random, &before, &record)?;
         }
     }
     Ok(())
@@ -146,19 +371,10 @@ fn with_every_store<W: Write>(calls: &mut Calls<W>, random: &mut Xorshift) -> io
 
 fn at_limits<W: Write>(calls: &mut Calls<W>, random: &mut Xorshift) -> io::Result<()> {
     let (good, bad) = (damaged(random), lost(random));
-    let mut flags = [0; FRAME_WORDS];
-    receive(
-        &good,
-        &mut [0; STORE_BYTES],
-        &mut [0; LANES_BYTES],
-        &mut flags,
-    );
-    let [clean, one, two, flagged] = count_flags(&flags);
-    assert!(clean.min(one).min(two).min(flagged) > 0);
     let d = 1;
-    let frame = [1, d, clean, one, two, flagged];
-    let loss = [0, d + 1, 0, 0, 0, 0];
-    for (symbols, more) in [(&good, frame), (&bad, loss)] {
+    let frame = added(&good, d);
+    assert!(frame.iter().all(|&more| more > 0));
+    for (symbols, more) in [(&good, frame), (&bad, added(&bad, d))] {
         for which in 0..6 {
             for edge in edges(MOST[which], more[which]) {
                 let mut numbers = [7; 6];
@@ -168,7 +384,8 @@ fn at_limits<W: Write>(calls: &mut Calls<W>, random: &mut Xorshift) -> io::Resul
                     ..odd_run(random, GOING)
                 };
                 let mut store = random.bytes(STORE_BYTES);
-                calls.run_step(&mut run, &mut store, &frame_record(9 + d as u32, symbols))?;
+                let record = frame_record(9 + d as u32, symbols);
+                step(calls, &mut run, &mut store, &record)?;
             }
         }
         for start in STARTS {
@@ -179,7 +396,7 @@ fn at_limits<W: Write>(calls: &mut Calls<W>, random: &mut Xorshift) -> io::Resul
                 };
                 let mut store = random.bytes(STORE_BYTES);
                 let record = frame_record(start.wrapping_add(d), symbols);
-                calls.run_step(&mut run, &mut store, &record)?;
+                step(calls, &mut run, &mut store, &record)?;
             }
         }
     }
@@ -192,6 +409,8 @@ struct Host<'a, W: Write> {
     run: Kept,
     store: Vec<u8>,
     sender: [u8; STORE_BYTES],
+    /// What the last step answered.
+    told: u32,
 }
 
 impl<'a, W: Write> Host<'a, W> {
@@ -200,12 +419,13 @@ impl<'a, W: Write> Host<'a, W> {
         let mut run = odd_run(random, GOING);
         let mut store = random.bytes(STORE_BYTES);
         calls.run_open(&mut run)?;
-        calls.run_step(&mut run, &mut store, &[])?;
+        step(calls, &mut run, &mut store, &[])?;
         Ok(Host {
             calls,
             run,
             store,
             sender: [0; STORE_BYTES],
+            told: 0,
         })
     }
 
@@ -213,8 +433,7 @@ impl<'a, W: Write> Host<'a, W> {
     fn step(&mut self, random: &mut Xorshift, record: &[u8]) -> io::Result<u32> {
         let head = record.len().min(4);
         self.calls.wanted(&record[..head])?;
-        self.calls
-            .run_step(&mut self.run, &mut self.store, record)?;
+        self.told = step(self.calls, &mut self.run, &mut self.store, record)?;
         let mut text = random.bytes(ROOM);
         self.calls.run_report(&self.run, &mut text)?;
         self.calls.run_verdict(&self.run)
@@ -259,10 +478,12 @@ fn measured<W: Write>(calls: &mut Calls<W>, random: &mut Xorshift) -> io::Result
         // Nothing more may come: an empty piece changes nothing, and a byte stops the run.
         assert_eq!(host.step(random, &[])?, last);
         assert_eq!(host.step(random, &[0])?, NOT_MEASURED);
+        assert_eq!(host.told, 6);
         let stopped = host.run;
         host.frame(random, start.wrapping_add(count), |_, _| ())?;
         host.step(random, &order(start, count, allowed))?;
-        assert_eq!(host.run, stopped);
+        host.step(random, &[0])?;
+        assert_eq!((host.run, host.told), (stopped, 0));
     }
     Ok(())
 }
@@ -283,11 +504,11 @@ fn disturbed<W: Write>(calls: &mut Calls<W>, random: &mut Xorshift) -> io::Resul
             damage_words(random, symbols, 0, n % 7);
             damage_pilots(random, symbols, wrong);
         })?;
-        assert_eq!(host.run.phase, GOING);
+        assert_eq!((host.run.phase, host.told), (GOING, 0));
     }
     let late = host.run.account.expected.wrapping_sub(1);
     host.frame(random, late, |_, _| ())?;
-    assert_eq!(host.run.phase, STOPPED);
+    assert_eq!((host.run.phase, host.told), (STOPPED, 10));
     for _ in 0..5 {
         let next = host.run.account.expected;
         host.frame(random, next, |_, _| ())?;
@@ -325,8 +546,26 @@ fn arbitrary<W: Write>(calls: &mut Calls<W>, random: &mut Xorshift) -> io::Resul
 pub fn write<W: Write>(calls: &mut Calls<W>, random: &mut Xorshift) -> io::Result<()> {
     from_every_phase(calls, random)?;
     with_every_store(calls, random)?;
+    by_records(calls, random)?;
+    by_entries(calls, random)?;
+    second_orders(calls, random)?;
     at_limits(calls, random)?;
     measured(calls, random)?;
     disturbed(calls, random)?;
     arbitrary(calls, random)
+}
+
+#[cfg(test)]
+mod tests {
+    use super::*;
+
+    #[test]
+    fn records_are_refused_by_the_numbers_beside_them() {
+        let mut counts = [0; 4];
+        for (number, piece) in refused(&mut Xorshift::new(5)) {
+            assert_eq!(read(&piece, 0).refusal, number);
+            counts[number as usize - 6] += 1;
+        }
+        assert!(counts.iter().all(|&count| count > 40), "{counts:?}");
+    }
 }

@@ -31,9 +31,9 @@ same-length c = search needs
 
 returns-2 : tie.Need-returns-2
 returns-2 c =
-    let x = c .before .before .before .before .before .before .before .before .before .before .before .before .before .before .before .before .args in
-    let put = c .before .before .before .put-store .ensures in
-    step-done (x .r) (x .store .now) (x .piece .now) (c .before .before .before .before .before .before .before .before .before .before .before .before .before .if1 .left) _ _ (c .before .before .before .before .before .before .before .before .before .before .copy .ensures) refl _ (c .before .before .before .before .before .before .before .before .run-of .ensures) _ _ (c .before .before .before .before .before .before .step .ensures) (put .1) _ _ (c .kept .ensures) (put .0)
+    let x = c .before .before .before .before .before .before .before .before .before .before .before .before .before .before .before .before .before .args in
+    let put = c .before .before .before .before .put-store .ensures in
+    step-done (x .r) (x .store .now) (x .piece .now) (c .before .before .before .before .before .before .before .before .before .before .before .before .before .before .if1 .left) _ _ (c .before .before .before .before .before .before .before .before .before .before .before .copy .ensures) refl _ (c .before .before .before .before .before .before .before .before .before .run-of .ensures) _ _ (c .before .before .before .before .before .before .before .step .ensures) (put .1) _ _ (c .kept .ensures) (put .0)
 
 pub stepped-spec : {M : Type 1} → statement M
 stepped-spec =
