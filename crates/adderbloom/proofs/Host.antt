@@ -1,14 +1,11 @@
 -- A whole run by calls from C comes to the capture's run, and so to its verdict and its report.
 -- Assumes nothing.
 use mathlib.Core.Path.{_≡_, refl, sym, ap, _∙_}
-use mathlib.Core.Bool.{cond}
 use mathlib.Core.Logic.{_↔_, inl}
-use mathlib.Core.List.{List, [], _∷_}
-use Prim.Native.Nat.{ℕ, zero, suc, _<_, _≤_}
+use mathlib.Core.List.{List, []}
+use Prim.Native.Nat.{ℕ, zero, suc, _≤_}
 use native.Mathlib.Omega.{arith}
-use lib.Dec.{eqb}
 use lib.ListN.{length, getD, take}
-use lib.Seq.{take-length}
 use borrow.Author.Tests.{eq-eqb}
 use Rattle.account.specs.declared.Verdict.{Verdict}
 use Rattle.account.specs.declared.Verdict.the-variants.{NotMeasured, Pass, Fail}
@@ -18,9 +15,8 @@ use Rattle.bench.specs.declared.Phase.{Phase}
 use Rattle.bench.specs.declared.Phase.the-variants.{Unordered, Going, Stopped}
 use Rattle.bench.specs.Run.{State, begun, stepped, stepRefusal, verdictOf}
 use Rattle.bench.specs.Walk.{pieces, through, examined}
-use Rattle.bench.specs.Report.{text, writtenBytes, written}
+use Rattle.bench.specs.Report.{writtenBytes, written}
 use Rattle.bench.proofs.Stores.{any-store, store-stays}
-use Rattle.demands.specs.Verdict.{Examination}
 use Rattle.demands.proofs.Verdict.{passes, fails, unmeasured, stepwise, on-the-way}
 use Rattle.adderbloom.specs.Run.{phaseNumber, phaseOf, runOf, kept, stateOf, Steps}
 use Rattle.adderbloom.specs.Host.{Hosted, HostedRun, HostedVerdict, HostedReport, HostedExists}

@@ -25,7 +25,7 @@ use Rattle.framing.specs.Stream.{Sent, Received}
 use Rattle.framing.proofs.Sending.{frame-length}
 use Rattle.framing.proofs.Receiving.{all-lengths, lanes-length, lanes-bytes, flags-length}
 use Rattle.framing.proofs.Stream.{block-rule, frame-sent, sent-locks}
-use Rattle.framing.proofs.Received.{passedOn, flag-at, brought-bit, store-whole, call-done, back-stream}
+use Rattle.framing.proofs.Received.{flag-at, brought-bit, store-whole, call-done, back-stream}
 use Rattle.demands.specs.Return.{Return, OneFrame}
 use Rattle.demands.proofs.Hit.{code-passed}
 

@@ -9,7 +9,7 @@ use native.Mathlib.Decide.{decLt}
 use lib.Dec.{T, eqb, ltb, eqb→eq, ltb→lt, lit<}
 use lib.ListN.{getD, length, List·getD-eq-default}
 use Rattle.bits.specs.Bits.{bitOf, number, value}
-use Rattle.bits.proofs.Table.{every, table-rule, each, and-left, and-right}
+use Rattle.bits.proofs.Table.{every, table-rule, and-left, and-right}
 use Rattle.bits.proofs.Value.{bit-number}
 use Rattle.lanes.specs.Permutation.{named}
 use Rattle.lanes.specs.Interleaver.{Rows, sender, receiver}

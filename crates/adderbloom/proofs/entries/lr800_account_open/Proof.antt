@@ -22,7 +22,6 @@ use denote.Plain.{uint-vals, uint-tells, nothing-makes}
 use denote.Builtin.{u32, unit}
 use denote.Ref.{RefT}
 use denote.Signature.{plain}
-use denote.Struct.Laws as LL
 use denote.Triple.Spec.{Meets, tripleOf}
 use denote.Triple.Statement.{Contract, Triple}
 use denote.Triple.Clauses.{lasts}
@@ -33,7 +32,7 @@ use Rattle.account.proofs.opened as by-value
 use Rattle.account.proofs.opened.Symbol as by-value-def
 use Rattle.account.proofs.opened.Symbol.{name as #opened}
 use Rattle.account.proofs.opened.Met as by-value-thm
-use Rattle.adderbloom.proofs.Lent.{machine, asking, hears, placed, Held, lent-alone}
+use Rattle.adderbloom.proofs.Lent.{asking, hears, placed, Held, lent-alone}
 use Rattle.adderbloom.proofs.Structs.{an-account}
 use Rattle.adderbloom.proofs.entries.lr800_account_open.Key.{name as #lr800-account-open}
 use Rattle.adderbloom.proofs.entries.lr800_account_open as lr800-account-open

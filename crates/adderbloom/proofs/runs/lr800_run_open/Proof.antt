@@ -19,7 +19,6 @@ use denote.RattleType.{owns}
 use denote.Plain.{nothing-makes}
 use denote.Builtin.{unit}
 use denote.Ref.{RefT}
-use denote.Struct.Laws as LL
 use denote.Triple.Spec.{Meets, tripleOf}
 use denote.Triple.Statement.{Contract, Triple}
 use denote.Triple.Clauses.{lasts}
