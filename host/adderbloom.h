@@ -22,8 +22,8 @@
  *    11  after the entry, accepted or missing frames would stand above 1,000,000, or some tally above 384,000,000
  *    12  the frame's tallies do not add up to 384: some of its flag bytes are above 3
  *
- * Two things no contract can speak of: memory lent twice to one call, and a null pointer, unless it comes with a length of 0. Padding within a struct is not spoken
- * of either: compare its members, not its bytes. */
+ * What no contract can speak of is the caller's to keep: a pointer leads to as much memory as is said, aligned for its type, that nothing else writes during the call and that is
+ * not lent to the call twice; only a slice of length 0 may be null. Padding within a struct may change: compare its members, not its bytes. */
 #ifndef ADDERBLOOM_H
 #define ADDERBLOOM_H
 
@@ -47,7 +47,7 @@ uint32_t lr800_send(const uint8_t *input, size_t input_length, uint8_t *store, s
 
 /* Receives a frame. The store is the receiver's own: lend it to every call of a stream, and to no sender.
  * Answers 0, 1, 2, 3, 4 or 5. At 0, store, output and flags have been written in full. A frame refused by 5 is lost: it must be entered as a loss
- * (lr800_account_lose), or the account does not know of it.
+ * (lr800_account_lose), or the account does not know of it. One refused by 1 to 4 was not measured: the run it belongs to is stopped.
  * If both stores were fresh at the first frame and every frame was received, each lane comes back 36 blocks (1,440 bits) later, behind zeros. After a frame
  * that was lost or refused, the next 36 blocks of each lane may be wrong, so the next two frames. */
 uint32_t lr800_receive(const uint8_t *input, size_t input_length, uint8_t *store, size_t store_length, uint8_t *output, size_t output_length,
@@ -69,17 +69,18 @@ typedef struct lr800_account {
 /* The account of a new order: start is expected, and every other number is 0. */
 void lr800_account_open(lr800_account *account, uint32_t start);
 
-/* Enters a frame that was received, by its number and its flag bytes: the frames of a gap before it are missing. Answers 0, 4, 10, 11 or 12.
+/* Enters a frame that was received, by its number and its flag bytes: the frames of a gap before it are missing. Answers 0, 4, 10, 11 or 12; a refused entry stops the run.
  * A frame that is refused here has moved the store that was lent to lr800_receive: only a copy made before can undo that. lr800_run_step keeps this rule itself. */
 uint32_t lr800_account_enter(lr800_account *account, uint32_t number, const uint8_t *flags, size_t flags_length);
 
-/* Enters a frame that lr800_receive refused by 5 as a loss: it is missing, and the frames of a gap before it. Answers 0, 10 or 11. */
+/* Enters a frame that lr800_receive refused by 5 as a loss: it is missing, and the frames of a gap before it. Answers 0, 10 or 11; a refused entry stops the run. */
 uint32_t lr800_account_lose(lr800_account *account, uint32_t number);
 
 /* What is said of a run. What is not set says not measured. */
 enum { LR800_NOT_MEASURED = 0, LR800_PASS = 1, LR800_FAIL = 2 };
 
-/* The verdict on the numbers of a run. Give 0 for stopped only if an order came first and alone, the capture was read to its end, and no record was refused by 6 to 12.
+/* The verdict on the numbers of a run. Give 0 for stopped only if an order came first and alone, the capture was read to its end, no record and no entry was refused, and no
+ * frame was refused but by 5, each of these entered as a loss.
  * Only the numbers given are judged: no limit is applied, and nothing is known of late frames.
  *   LR800_NOT_MEASURED  stopped is not 0, or asked is 0, or accepted is not asked, or missing is not 0, or the four tallies do not total 384 times accepted
  *   LR800_PASS          else, if flagged is at most allowed
@@ -113,7 +114,7 @@ lr800_record lr800_read(const uint8_t *capture, size_t capture_length, size_t pl
  * A host that reads an input asks for more until it has as many as are wanted, or the input ends, and steps over what it has. */
 size_t lr800_wanted(const uint8_t *piece, size_t piece_length);
 
-/* ---- A whole run: the host gives records, and no rule is left to it ---- */
+/* ---- A whole run: the host gives every byte of a capture, in turn, and says where reading failed; every other rule is kept here ---- */
 
 /* Where a run stands. Any phase above LR800_STOPPED is taken for it, and is LR800_STOPPED after a step that does not answer 2. */
 enum { LR800_UNORDERED = 0, LR800_GOING = 1, LR800_STOPPED = 2 };
@@ -129,14 +130,16 @@ typedef struct lr800_run {
 /* A run before its first record. */
 void lr800_run_open(lr800_run *run);
 
-/* One record's bytes, from their beginning; what follows a whole record is not looked at, and no bytes change nothing. The store is the run's own: lend it to every step of
- * the run, and to nothing else; the first order clears it. The first order opens the account; a frame is received and entered, or without lock entered as a
- * loss; a refused record or entry, a second order and a frame before any order stop the run, and nothing else changes. A stopped run changes no more.
+/* One record's bytes. What follows a whole record is not looked at: it must begin the next piece, since bytes that are never given are not measured, and PASS does not
+ * speak of them. No bytes are no record. The store is the run's own: lend it to every step of the run, and to nothing else; the first order clears it.
+ * The first order opens the account; a frame is received and entered, or without lock entered as a loss; a refused record or entry, a second order and a frame before
+ * any order stop the run, and nothing else changes. A stopped run changes no more.
  * Answers 2, and nothing is changed; else 6 to 11, by which the record or its entry (of a frame without lock: the loss) was refused, and the run is stopped; else 0. A second
- * order and a frame before any order have no number and answer 0, and so does whatever comes to a stopped run: whether a run is stopped is told by its phase. */
+ * order and a frame before any order have no number and answer 0: whether a run is stopped is told by its phase. A frame without lock answers 0 once its loss is entered, never
+ * 5: it shows in account.missing. Whatever comes to a stopped run answers 0, or 2. */
 uint32_t lr800_run_step(lr800_run *run, uint8_t *store, size_t store_length, const uint8_t *piece, size_t piece_length);
 
-/* Stops a run, as a host must whose input could not be read to its end: a read that fails is no end. Its figures and its account stay. */
+/* Stops a run, as a host must whose input could not be read to its end: a read that fails is no end. Its figures and its account stay, and its verdict is LR800_NOT_MEASURED. */
 void lr800_run_stop(lr800_run *run);
 
 /* The verdict of a run: LR800_NOT_MEASURED unless it is going on and was measured. */
@@ -147,6 +150,11 @@ uint32_t lr800_run_verdict(lr800_run run);
 /* The report of a run as text, eight lines, each ended by one 0A, at the beginning of a buffer; no 00 is set behind it. Answers how many bytes it takes. A buffer too small for
  * it is not touched, and the answer is 0. */
 size_t lr800_run_report(lr800_run run, uint8_t *text, size_t text_length);
+
+/* the structs are laid out as in the archive, or this does not compile */
+typedef char lr800_account_has_56_bytes[sizeof(lr800_account) == 56 ? 1 : -1];
+typedef char lr800_record_has_40_bytes[sizeof(lr800_record) == 40 ? 1 : -1];
+typedef char lr800_run_has_72_bytes[sizeof(lr800_run) == 72 ? 1 : -1];
 
 #ifdef __cplusplus
 }

@@ -9,7 +9,7 @@
 
 enum {
     FRAMES = 40, ALLOWED = 20,               /* the order: frames asked, flagged words allowed */
-    LOST = 21,                               /* the frame that will not lock */
+    LOST = 21,                               /* the frame that will not lock, or is left out */
     LANES = 32, LANE_BYTES = LR800_LANES / LANES,
     BEHIND = 180,                            /* bytes by which a lane comes back later: 36 blocks of 40 bits */
     PILOTS_APART = 64, NO_LOCK = 25          /* a pilot is the first symbol of each 64; so many wrong ones are no lock */
@@ -68,8 +68,8 @@ static void damage(uint8_t *frame, uint8_t *flips, int words, int count) {
     }
 }
 
-/* The line: every frame has words with one flip and with two, every tenth some with more, and one frame loses its pilots. */
-static void damage_frame(uint8_t *frame, uint8_t *flips, int f) {
+/* The line: every frame has words with one flip and with two, every tenth some with more, and the lost one has wrong pilots. */
+static void damage_frame(uint8_t *frame, uint8_t *flips, int f, int lost) {
     memset(flips, 0, LR800_FLAGS);
     damage(frame, flips, 20, 1);
     damage(frame, flips, 6, 2);
@@ -78,7 +78,7 @@ static void damage_frame(uint8_t *frame, uint8_t *flips, int f) {
         damage(frame, flips, 1, 4);
         damage(frame, flips, 1, 5);
     }
-    if (f == LOST)
+    if (f == lost)
         for (int n = 0; n < NO_LOCK; n++) frame[PILOTS_APART * n] ^= 0xFF;
 }
 
@@ -99,20 +99,21 @@ static void print_verdict(uint32_t verdict) {
     printf("verdict %s\n", names[verdict]);
 }
 
-/* The host receives and enters each frame by itself, and so keeps the rules by itself. */
-static void receive_stream(void) {
+/* The host receives and enters each frame by itself, and so keeps the rules by itself. One frame does not lock; FRAMES: every one does. */
+static void receive_stream(const char *what, int lost, uint32_t verdict) {
     static uint8_t store[LR800_STORE]; /* the receiver's own */
     static uint8_t frame[LR800_FRAME], lanes[LR800_LANES], flags[LR800_FLAGS], flips[LR800_FLAGS];
     lr800_account account;
     int since = 2, due = 0; /* frames since one that was lost or not mended; before the first there is none to spoil anything */
-    uint32_t stopped = 0, entered;
+    uint32_t stopped = 0, entered, said;
+    memset(store, 0, sizeof store); /* fresh */
     lr800_account_open(&account, START);
     for (int f = 0; f < FRAMES && !stopped; f++) {
         uint32_t number = START + (uint32_t)f, answer;
         memcpy(frame, sent[f], sizeof frame);
-        damage_frame(frame, flips, f);
+        damage_frame(frame, flips, f, lost);
         answer = lr800_receive(frame, sizeof frame, store, sizeof store, lanes, sizeof lanes, flags, sizeof flags);
-        must(answer == (f == LOST ? 5 : 0), "a frame was received that does not lock, or refused although it does");
+        must(answer == (f == lost ? 5 : 0), "a frame was received that does not lock, or refused although it does");
         if (answer == 5) {
             entered = lr800_account_lose(&account, number); /* else the account would not know of it */
             since = 0;
@@ -127,10 +128,14 @@ static void receive_stream(void) {
             must(lanes[i] == pattern(i / LANE_BYTES, f * LANE_BYTES + i % LANE_BYTES - BEHIND), "a lane came back other than it was sent");
         due++;
     }
-    printf("the stream, damaged on its way:\nlanes came back as sent, 36 blocks later, in %d frames\n", due);
+    must(!stopped && account.expected == START + FRAMES, "an entry was refused");
+    must(account.accepted + account.missing == FRAMES && account.missing == (lost < FRAMES), "the account does not know of every frame");
+    said = lr800_verdict(FRAMES, ALLOWED, account.accepted, account.missing, account.clean, account.one, account.two, account.flagged, stopped);
+    must(said == verdict, "another verdict");
+    printf("%s\nlanes came back as sent, 36 blocks later, in %d frames\n", what, due);
     printf("accepted %" PRIu64 "\nmissing %" PRIu64 "\n", account.accepted, account.missing);
     printf("clean %" PRIu64 "\none %" PRIu64 "\ntwo %" PRIu64 "\nflagged %" PRIu64 "\n", account.clean, account.one, account.two, account.flagged);
-    print_verdict(lr800_verdict(FRAMES, ALLOWED, account.accepted, account.missing, account.clean, account.one, account.two, account.flagged, stopped));
+    print_verdict(said);
 }
 
 /* four bytes, highest first */
@@ -160,27 +165,39 @@ static size_t write_capture(int left_out) {
     return (size_t)(to - capture);
 }
 
-/* Stands for read() or fread(): the next bytes of the capture, at most so many; none at its end. */
-static size_t read_capture(size_t length, size_t *place, uint8_t *to, size_t count) {
-    if (count > length - *place) count = length - *place;
-    memcpy(to, capture + *place, count);
-    *place += count;
-    return count;
+/* Stands for a file: the capture's bytes up to its length, and then the end, or a read that fails. */
+typedef struct {
+    size_t length, place;
+    int fails;
+} input;
+
+/* Stands for read(): the next bytes, at most so many. Answers how many, 0 at the end, or -1 where reading fails. */
+static long read_some(input *from, uint8_t *to, size_t count) {
+    if (count > from->length - from->place) count = from->length - from->place;
+    if (count == 0 && from->fails) return -1;
+    memcpy(to, capture + from->place, count);
+    from->place += count;
+    return (long)count;
 }
 
-/* A whole run: no rule is left to the host but to give every record in its turn. */
-static void run_capture(const char *what, size_t length, uint32_t refused_by, uint32_t verdict) {
+/* A whole run. Two rules are left to the host: to give every byte in its turn, and to say where reading failed. */
+static void run_capture(const char *what, input from, uint32_t refused_by, uint32_t verdict) {
     static uint8_t store[LR800_STORE], piece[LR800_FRAME_BYTES], text[LR800_REPORT];
-    size_t place = 0, have, got, written;
+    size_t have, written;
+    long got;
     uint32_t answer = 0;
     lr800_run run;
     lr800_run_open(&run);
     while (run.phase < LR800_STOPPED) {
         have = 0;
-        do { /* a read that fails is no end of the input: it would call for lr800_run_stop(&run) here */
-            got = read_capture(length, &place, piece + have, lr800_wanted(piece, have) - have);
-            have += got;
+        do {
+            got = read_some(&from, piece + have, lr800_wanted(piece, have) - have);
+            if (got > 0) have += (size_t)got;
         } while (got > 0 && have < lr800_wanted(piece, have));
+        if (got < 0) {
+            lr800_run_stop(&run); /* a read that fails is no end of the capture */
+            break;
+        }
         if (have == 0) break; /* the end, between two records; an end within one is told by the step */
         answer = lr800_run_step(&run, store, sizeof store, piece, have);
         must(answer != 2, "the store has another length"); /* any other than 0 has stopped the run */
@@ -194,12 +211,24 @@ static void run_capture(const char *what, size_t length, uint32_t refused_by, ui
     must(fwrite(text, 1, written, stdout) == written, "the report was not written"); /* no 00 stands behind it */
 }
 
+static input whole(size_t length) {
+    input from = {0, 0, 0};
+    from.length = length;
+    return from;
+}
+
 int main(void) {
+    input broken;
     send_stream();
-    receive_stream();
-    run_capture("the capture of all frames as sent:", write_capture(FRAMES), 0, LR800_PASS);
-    run_capture("the same without one of them:", write_capture(LOST), 0, LR800_NOT_MEASURED);
-    run_capture("all of them, the last cut short:", write_capture(FRAMES) - 1, 6, LR800_NOT_MEASURED);
+    receive_stream("the stream, damaged on its way:", FRAMES, LR800_PASS);
+    printf("\n");
+    receive_stream("the same, one frame without lock:", LOST, LR800_NOT_MEASURED);
+    run_capture("the capture of all frames as sent:", whole(write_capture(FRAMES)), 0, LR800_PASS);
+    run_capture("the same without one of them:", whole(write_capture(LOST)), 0, LR800_NOT_MEASURED);
+    run_capture("all of them, the last cut short:", whole(write_capture(FRAMES) - 1), 6, LR800_NOT_MEASURED);
+    broken = whole(write_capture(FRAMES));
+    broken.fails = 1;
+    run_capture("all of them, and then a read that fails:", broken, 0, LR800_NOT_MEASURED);
     must(fflush(stdout) == 0, "not all of it was written");
     return 0;
 }

@@ -1,25 +1,27 @@
 -- A whole run by calls from C comes to the capture's run, and so to its verdict and its report.
 -- Assumes nothing.
 use mathlib.Core.Path.{_≡_, refl, sym, ap, _∙_}
-use mathlib.Core.Logic.{_↔_, inl}
-use mathlib.Core.List.{List, []}
+use mathlib.Core.Logic.{_⊎_, inl, inr, _↔_}
+use mathlib.Core.List.{List, [], _∷_}
 use Prim.Native.Nat.{ℕ, zero, suc, _≤_}
 use native.Mathlib.Omega.{arith}
-use lib.ListN.{length, getD, take}
+use lib.ListN.{length, getD, take, drop}
+use lib.Seq.{take-length}
 use borrow.Author.Tests.{eq-eqb}
 use Rattle.account.specs.declared.Verdict.{Verdict}
 use Rattle.account.specs.declared.Verdict.the-variants.{NotMeasured, Pass, Fail}
-use Rattle.account.specs.Account.{verdictNumber}
+use Rattle.account.specs.Account.{verdict, verdictNumber}
 use Rattle.bench.specs.declared.Run.{Run as Bench}
 use Rattle.bench.specs.declared.Phase.{Phase}
 use Rattle.bench.specs.declared.Phase.the-variants.{Unordered, Going, Stopped}
-use Rattle.bench.specs.Run.{State, begun, stepped, stepRefusal, verdictOf}
+use Rattle.bench.specs.Run.{State, begun, stopped, stepped, stepRefusal, goesOn, verdictOf}
 use Rattle.bench.specs.Walk.{pieces, through, examined}
 use Rattle.bench.specs.Report.{writtenBytes, written}
+use Rattle.bench.proofs.Walk.{step-piece, through-stays}
 use Rattle.bench.proofs.Stores.{any-store, store-stays}
-use Rattle.demands.proofs.Verdict.{passes, fails, unmeasured, stepwise, on-the-way}
+use Rattle.demands.proofs.Verdict.{passes, fails, unmeasured, on-the-way}
 use Rattle.adderbloom.specs.Run.{phaseNumber, phaseOf, runOf, kept, stateOf, Steps}
-use Rattle.adderbloom.specs.Host.{Hosted, HostedRun, HostedVerdict, HostedReport, HostedExists}
+use Rattle.adderbloom.specs.Host.{Gives, Hosted, HostedRun, HostedVerdict, HostedReport, HostedExists, StoppedVerdict}
 use Rattle.adderbloom.specs.declared.runs.Run.{Run}
 
 -- a run that is kept is the run that it was
@@ -36,17 +38,46 @@ kept-back b = rw (phase-back (b .phase)) refl
 step-is : (r : Run) (s piece : List ℕ) (n : ℕ) (r′ : Run) (s′ : List ℕ) → Steps r s piece n r′ s′ → length s ≡ 2880 → stateOf r′ s′ ≡ stepped (stateOf r s) piece
 step-is r s piece n r′ s′ S l = rw (S .run, S .store, eq-eqb _ _ l, kept-back (stepped (stateOf r s) piece .run)) refl
 
+-- to step over bytes that begin with a piece is to step over the piece
+gives-step : (st : State) (bytes piece : List ℕ) → Gives bytes piece → stepped st bytes ≡ stepped st piece
+gives-step st bytes piece (inl e) = ap (stepped st) e
+gives-step st bytes piece (inr e) = sym (step-piece st bytes) ∙ ap (stepped st) e
+
+-- in two parts
+through-parts : (n : ℕ) (ps : List (List ℕ)) (st : State) → through (through st (take n ps)) (drop n ps) ≡ through st ps
+unfolding through
+through-parts zero ps st = refl
+through-parts (suc n) [] st = refl
+through-parts (suc n) (p ∷ ps) st = through-parts n ps (stepped st p)
+
 module _ (s : List ℕ) (r : Run) (h : Hosted s r) where
-  stays-whole : (k : ℕ) → k ≤ length (pieces s) → length (h .stores k) ≡ 2880
-  stays-whole zero l = h .store
-  stays-whole (suc k) l =
-      ap (λ (st : State). length (st .store)) (step-is _ _ _ _ _ _ (h .step k l) (stays-whole k (omega arith)))
-      ∙ store-stays (stateOf (h .runs k) (h .stores k)) (getD (pieces s) k []) (stays-whole k (omega arith))
+  abbrev state : ℕ → State
+  state k = stateOf (h .runs k) (h .stores k)
+
+  -- the store stays whole, and each state is what stepping through comes to
+  so-far : (k : ℕ) → k ≤ h .steps → (length (h .stores k) ≡ 2880) × (state k ≡ through (state 0) (take k (pieces s)))
+  unfolding through
+  so-far zero l = (h .store, refl)
+  so-far (suc k) l =
+      let before = so-far k (omega arith) in
+      let inside = h .inside in
+      let next : state (suc k) ≡ stepped (state k) (getD (pieces s) k []) = step-is _ _ _ _ _ _ (h .step k l) (before .0) ∙ gives-step (state k) (h .given k) _ (h .piece k l) in (
+        ap (λ (st : State). length (st .store)) next ∙ store-stays (state k) (getD (pieces s) k []) (before .0),
+        next ∙ ap (λ (st : State). stepped st (getD (pieces s) k [])) (before .1) ∙ sym (on-the-way (pieces s) (state 0) k (omega arith)),
+      )
+
+  -- what is left of the pieces changes nothing
+  all : (h .steps ≡ length (pieces s)) ⊎ (phaseOf (h .runs (h .steps) .phase) ≡ Stopped) → state (h .steps) ≡ through (state 0) (pieces s)
+  all (inl e) = so-far (h .steps) (omega arith) .1 ∙ ap (through (state 0)) (ap (λ (n : ℕ). take n (pieces s)) e ∙ take-length (pieces s))
+  all (inr e) =
+      sym (through-stays (state (h .steps)) e (drop (h .steps) (pieces s)))
+      ∙ ap (λ (st : State). through st (drop (h .steps) (pieces s))) (so-far (h .steps) (omega arith) .1)
+      ∙ through-parts (h .steps) (pieces s) (state 0)
 
   comes-to : runOf r ≡ examined s .run
   comes-to =
       ap runOf (h .last)
-      ∙ ap (λ (st : State). st .run) (sym (stepwise (pieces s) (λ k. stateOf (h .runs k) (h .stores k)) (λ k l. step-is _ _ _ _ _ _ (h .step k l) (stays-whole k (omega arith)))))
+      ∙ ap (λ (st : State). st .run) (all (h .enough))
       ∙ ap (λ (b : Bench). through (record { run = b; store = h .stores 0 }) (pieces s) .run) (ap runOf (h .opened) ∙ kept-back begun)
       ∙ any-store s (h .stores 0)
 
@@ -96,19 +127,28 @@ module _ (s store : List ℕ) (l : length store ≡ 2880) where
   unfolding at begins through
   calls =
       record {
+        steps = length (pieces s);
+        given = λ k. getD (pieces s) k [];
         runs = λ k. kept (at k .run);
         stores = λ k. at k .store;
         numbers = λ k. stepRefusal (stateOf (kept (at k .run)) (at k .store)) (getD (pieces s) k []);
         opened = ap kept (kept-back begun);
         store = l;
+        piece = λ k h. inl refl;
         step = λ k h. record {
           number = rw (eq-eqb _ _ (at-whole k (omega arith))) refl;
           run = rw (eq-eqb _ _ (at-whole k (omega arith)), kept-back (at k .run)) (ap (λ (st : State). kept (st .run)) (on-the-way (pieces s) begins k h));
           store = rw (eq-eqb _ _ (at-whole k (omega arith)), kept-back (at k .run)) (ap (λ (st : State). st .store) (on-the-way (pieces s) begins k h));
         };
+        inside = omega arith;
+        enough = inl refl;
         last = refl;
       }
 
 pub hosted-exists : HostedExists
 unfolding calls at begins through
 hosted-exists s store l = (kept (at s store l (length (pieces s)) .run), calls s store l, refl)
+
+pub stopped-verdict : StoppedVerdict
+unfolding verdictOf goesOn verdict verdictNumber
+stopped-verdict r = ap (λ (b : Bench). verdictNumber (verdictOf b)) (kept-back (stopped (runOf r)))

@@ -34,11 +34,11 @@ kept r = record { phase = phaseNumber (r .phase); asked = r .asked; allowed = r 
 abbrev pub stateOf : Run → List ℕ → State
 stateOf r store = record { run = runOf r; store = store }
 
--- whether a call is made at all: 2 for a store of another length
+-- the store has 2,880 bytes
 abbrev pub whole : List ℕ → Bool
 whole store = eqb (length store) 2880
 
--- a call of the step with the run r, the store s and one record's bytes: the number answered, and the run and the store at exit; with a store of another length nothing is changed
+-- a call of the step with the run r, the store s and one record's bytes: the number answered, and the run and the store at exit; a store of another length is refused by 2, and nothing is changed
 pub record Steps (r : Run) (s piece : List ℕ) (n : ℕ) (r′ : Run) (s′ : List ℕ) : Type 0 where
   pub number : n ≡ cond (whole s) (stepRefusal (stateOf r s) piece) 2
   pub run : r′ ≡ cond (whole s) (kept (stepped (stateOf r s) piece .run)) r

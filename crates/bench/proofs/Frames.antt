@@ -28,10 +28,10 @@ unlocked : (l : Bool) (r : ℕ) → r ≡ cond l 0 5 → (r ≡ 0 → ⊥) → l
 unlocked true r e n = absurd (n e)
 unlocked false r e n = refl
 
--- with one store, a choice of runs is a choice of states
-whichever : (b : Bool) (x y : Run) (s : List ℕ) → _≡_ {A = State} (record { run = cond b x y; store = s }) (cond b (record { run = x; store = s }) (record { run = y; store = s }))
-whichever true x y s = refl
-whichever false x y s = refl
+-- a choice of one
+either : (b : Bool) (s : List ℕ) → cond b s s ≡ s
+either true s = refl
+either false s = refl
 
 module _ (run : Run) (s k f o g : List ℕ) (got number : ℕ) (s′ o′ g′ : List ℕ) (copy : k ≡ s) (R : Receives base f k o g number s′ o′ g′)
     (frame : length f ≡ 6144) (store : length k ≡ 2880) (lanes : length o ≡ 5280) (flags : length g ≡ 384) where
@@ -47,7 +47,7 @@ module _ (run : Run) (s k f o g : List ℕ) (got number : ℕ) (s′ o′ g′ :
     unfolding framed entryOf
     lost n is =
         let l = unlocked (locks f 0) number by-lock n in
-        (rw (answer, l, sym is) (whichever (eqb (e .refusal) 0) (going run (e .account)) (stopped run) s), rw (answer, l, sym is) refl)
+        (rw (answer, l, sym is) (ap (λ (x : List ℕ). record { run = afterEntry run e; store = x }) (sym (either (eqb (e .refusal) 0) s))), rw (answer, l, sym is) refl)
 
     module _ (z : number ≡ 0) (t : Tallies) (tallies : t ≡ talliesOf (run .account) got g′) (is : e ≡ frameEntered (run .account) got t) where
       entry : e ≡ frameEntered (run .account) got (talliesOf (run .account) got (receivedFlags f))

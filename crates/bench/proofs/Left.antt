@@ -22,7 +22,7 @@ use Rattle.capture.specs.Capture.{readAt, symbolsAt}
 use Rattle.bench.specs.declared.Run.{Run}
 use Rattle.bench.specs.declared.Phase.{Phase}
 use Rattle.bench.specs.declared.Phase.the-variants.{Unordered, Going, Stopped}
-use Rattle.bench.specs.Run.{State, noted, framed, orderCame, frameCame, halted, cameAs, stepped}
+use Rattle.bench.specs.Run.{State, noted, entryOf, framed, orderCame, frameCame, halted, cameAs, stepped}
 
 -- what the limits leave to an account
 abbrev pub room : Account → ℕ
@@ -53,7 +53,7 @@ module _ (st : State) where
       go (no n) = rw (ne-eqb (e .refusal) 0 n) (omega arith)
 
   framed-less : (got : ℕ) (f : List ℕ) → leftOf (framed st got f .run) < 1 + room (st .run .account)
-  unfolding framed
+  unfolding framed left entryOf
   framed-less got f = go (locks f 0) refl
     where
       go : (l : Bool) → locks f 0 ≡ l → leftOf (framed st got f .run) < 1 + room (st .run .account)

@@ -10,8 +10,7 @@ use Rattle.bits.proofs.Tabulate.{length-tabulate}
 use Rattle.account.specs.declared.Verdict.{Verdict}
 use Rattle.account.specs.declared.Verdict.the-variants.{NotMeasured, Pass, Fail}
 use Rattle.bench.specs.Run.{verdictOf}
-use Rattle.bench.specs.Report.{ascii, decimal, line, words, figures, verdictLine, text}
-use Rattle.bench.specs.Writing.{Bounded}
+use Rattle.bench.specs.Report.{ascii, decimal, line, words, figures, verdictLine, text, Bounded}
 use Rattle.bench.proofs.Decimal.{digits-fit}
 
 -- a text of at most n bytes

@@ -1,5 +1,6 @@
 pub mod Frames
 pub mod Steps
+pub mod Stops
 pub mod Walk
 pub mod Stores
 pub mod Left

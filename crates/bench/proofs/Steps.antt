@@ -1,22 +1,18 @@
 -- A record in a run, phase by phase.
 -- Assumes nothing.
 use mathlib.Core.Path.{_≡_, refl, sym, ap, _∙_, subst}
-use mathlib.Core.Bool.{Bool, true, false, cond}
-use mathlib.Core.Logic.{_≢_}
+use mathlib.Core.Bool.{cond}
 use mathlib.Core.List.{List}
 use Prim.Native.Nat.{ℕ, _≤_, min}
 use native.Mathlib.Omega.{arith}
-use borrow.Author.Tests.{ne-eqb}
 use lib.ListN.{length, drop, replicate, length-take, length-drop}
-use Rattle.symbols.specs.Pilots.{locks}
 use Rattle.account.specs.declared.Account.{Account}
-use Rattle.account.specs.declared.Entry.{Entry}
 use Rattle.account.specs.Account.{opened}
 use Rattle.bench.specs.declared.Run.{Run}
 use Rattle.bench.specs.declared.Phase.{Phase}
 use Rattle.bench.specs.declared.Phase.the-variants.{Unordered, Going, Stopped}
 use Rattle.bench.specs.declared.Stepped.{Stepped}
-use Rattle.bench.specs.Run.{State, stopped, isStopped, noted, framed, entryOf, orderCame, frameCame, frameRefusal, halted, cameAs, refusalOf, stepped, stepRefusal, RefusedOnlyStops}
+use Rattle.bench.specs.Run.{State, stopped, isStopped, framed, entryOf, orderCame, frameCame, frameRefusal, halted, cameAs, refusalOf, stepped, stepRefusal}
 use Rattle.capture.specs.declared.Read.{Read}
 use Rattle.capture.specs.declared.Read.the-variants.{End, Refused, Order, Frame}
 use Rattle.capture.specs.Capture.{readAt, symbolsAt}
@@ -106,28 +102,3 @@ module _ (st : State) (s : List ℕ) (read : Read) (is : read ≡ readAt s 0) wh
     where
       least : (n : ℕ) → 6144 ≤ n → min 6144 n ≡ 6144
       least n l = omega arith
-
--- ---- a refused record only stops the run
-
-noted-refused : (st : State) (e : Entry) (s : List ℕ) → e .refusal ≢ 0 → noted st e s ≡ record { run = stopped (st .run); store = st .store }
-noted-refused st e s n = rw (ne-eqb (e .refusal) 0 n) refl
-
-framed-refused : (l : Bool) (st : State) (got : ℕ) (f : List ℕ) → locks f 0 ≡ l → entryOf (st .run .account) got f .refusal ≢ 0 → framed st got f ≡ record { run = stopped (st .run); store = st .store }
-unfolding framed entryOf
-framed-refused true st got f e n = rw e (noted-refused st _ _ (λ z. n (rw e z)))
-framed-refused false st got f e n = rw e (noted-refused st _ _ (λ z. n (rw e z)))
-
-came-refused : (read : Read) (p : Phase) (st : State) (s : List ℕ) → st .run .phase ≡ p → refusalOf read st s ≢ 0 → cameAs read st s ≡ record { run = stopped (st .run); store = st .store }
-unfolding refusalOf frameRefusal cameAs halted frameCame isStopped
-came-refused End p st s e n = absurd (n refl)
-came-refused (Refused refusal) Unordered st s e n = rw e refl
-came-refused (Refused refusal) Going st s e n = rw e refl
-came-refused (Refused refusal) Stopped st s e n = absurd (n (rw e refl))
-came-refused (Order start asked allowed next) p st s e n = absurd (n refl)
-came-refused (Frame number from next) Unordered st s e n = absurd (n (rw e refl))
-came-refused (Frame number from next) Going st s e n = ap (λ (p : Phase). frameCame p st number (symbolsAt s from)) e ∙ framed-refused (locks (symbolsAt s from) 0) st number (symbolsAt s from) refl (λ z. n (ap (λ (p : Phase). frameRefusal p st number (symbolsAt s from)) e ∙ z))
-came-refused (Frame number from next) Stopped st s e n = absurd (n (rw e refl))
-
-pub refused-only-stops : RefusedOnlyStops
-unfolding stepped stepRefusal
-refused-only-stops st s n = came-refused (readAt s 0) (st .run .phase) st s refl n

@@ -6,18 +6,16 @@ use mathlib.Core.List.{List, [], _∷_}
 use Prim.Native.Nat.{ℕ}
 use lib.Dec.{eqb}
 use lib.ListN.{length, length-replicate}
-use Rattle.framing.specs.Receive.{receivedStore, receivedFlags}
+use Rattle.framing.specs.Receive.{receivedStore}
 use Rattle.framing.proofs.Receiving.{store-length}
 use Rattle.symbols.specs.Pilots.{locks}
 use Rattle.capture.specs.declared.Read.{Read}
 use Rattle.capture.specs.declared.Read.the-variants.{End, Refused, Order, Frame}
 use Rattle.capture.specs.Capture.{readAt, symbolsAt}
-use Rattle.account.specs.declared.Entry.{Entry}
-use Rattle.account.specs.Account.{talliesOf, frameEntered, lossEntered}
 use Rattle.bench.specs.declared.Run.{Run}
 use Rattle.bench.specs.declared.Phase.{Phase}
 use Rattle.bench.specs.declared.Phase.the-variants.{Unordered, Going, Stopped}
-use Rattle.bench.specs.Run.{State, begun, fresh, stopped, going, noted, framed, orderCame, frameCame, halted, cameAs, stepped, goesOn}
+use Rattle.bench.specs.Run.{State, begun, fresh, entryOf, framed, orderCame, frameCame, halted, cameAs, stepped, goesOn}
 use Rattle.bench.specs.Walk.{pieces, through, AnyStore, StoreStays}
 use Rattle.bench.proofs.Walk.{came-stays, pieces-alike}
 
@@ -60,20 +58,15 @@ any-store s store =
 
 -- ---- whole
 
-either : (b : Bool) (x y : State) → length (x .store) ≡ 2880 → length (y .store) ≡ 2880 → length (cond b x y .store) ≡ 2880
-either true x y h k = h
-either false x y h k = k
-
-noted-whole : (st : State) (e : Entry) (s : List ℕ) → length (st .store) ≡ 2880 → length s ≡ 2880 → length (noted st e s .store) ≡ 2880
-noted-whole st e s h k = either (eqb (e .refusal) 0) (record { run = going (st .run) (e .account); store = s }) (record { run = stopped (st .run); store = st .store }) k h
+either : (b : Bool) (s t : List ℕ) → length s ≡ 2880 → length t ≡ 2880 → length (cond b s t) ≡ 2880
+either true s t h k = h
+either false s t h k = k
 
 framed-whole : (st : State) (got : ℕ) (f : List ℕ) → length (st .store) ≡ 2880 → length (framed st got f .store) ≡ 2880
 unfolding framed
 framed-whole st got f h =
-    let taken = frameEntered (st .run .account) got (talliesOf (st .run .account) got (receivedFlags f)) in
-    let lost = lossEntered (st .run .account) got in
-    either (locks f 0) (noted st taken (receivedStore f (st .store))) (noted st lost (st .store))
-    (noted-whole st taken (receivedStore f (st .store)) h (store-length f (st .store))) (noted-whole st lost (st .store) h h)
+    either (eqb (entryOf (st .run .account) got f .refusal) 0) (cond (locks f 0) (receivedStore f (st .store)) (st .store)) (st .store)
+    (either (locks f 0) (receivedStore f (st .store)) (st .store) (store-length f (st .store)) h) h
 
 came-whole : (read : Read) (p : Phase) (st : State) (piece : List ℕ) → st .run .phase ≡ p → length (st .store) ≡ 2880 → length (cameAs read st piece .store) ≡ 2880
 unfolding cameAs orderCame frameCame halted framed

@@ -2,7 +2,7 @@
 -- Assumes nothing.
 use mathlib.Core.Bool.{cond}
 use mathlib.Core.List.{List, [], _∷_, _++_}
-use Prim.Native.Nat.{ℕ, zero, suc, _+_, _/_, _%_}
+use Prim.Native.Nat.{ℕ, zero, suc, _+_, _/_, _%_, _≤_}
 use Prim.Native.Char.{code}
 use Prim.Native.String.{String, len, charAt}
 use lib.Dec.{ltb, leb}
@@ -62,3 +62,11 @@ writtenBytes r buffer = cond (leb (length (text r)) (length buffer)) (length (te
 -- a buffer with the report at its beginning; one that is too small stays as it was
 unfoldable pub written : Run → List ℕ → List ℕ
 written r buffer = cond (leb (length (text r)) (length buffer)) (text r ++ drop (length (text r)) buffer) buffer
+
+-- room for every report: 45 bytes of names, seven line ends, seven numbers of 20 digits, and 21 bytes of a verdict that says not measured
+abbrev pub longest : ℕ
+longest = 213
+
+-- no report is longer
+abbrev pub Bounded : Type 0
+Bounded = (run : Run) → length (text run) ≤ longest

@@ -2,7 +2,7 @@
 -- Assumes nothing.
 use mathlib.Core.Path.{_≡_}
 use mathlib.Core.Bool.{Bool, true, false, cond, not}
-use mathlib.Core.Logic.{_≢_}
+use mathlib.Core.Logic.{_≢_, _⊎_, _↔_}
 use mathlib.Core.List.{List}
 use Prim.Native.Nat.{ℕ}
 use lib.Dec.{eqb}
@@ -45,16 +45,17 @@ going r a = record { phase = Going; asked = r .asked; allowed = r .allowed; acco
 abbrev pub afterEntry : Run → Entry → Run
 afterEntry r e = cond (eqb (e .refusal) 0) (going r (e .account)) (stopped r)
 
--- an entry's effect, with the store that receiving left: a refused one only stops the run
+-- an entry's effect, with the store that receiving left: a refused one leaves the store as it was
 abbrev pub noted : State → Entry → List ℕ → State
-noted st e s = cond (eqb (e .refusal) 0) (record { run = going (st .run) (e .account); store = s }) (record { run = stopped (st .run); store = st .store })
+noted st e s = record { run = afterEntry (st .run) e; store = cond (eqb (e .refusal) 0) s (st .store) }
 
--- one frame: received and entered with the tallies of its flags, or, without lock, entered as a loss
+-- one frame's entry: with the tallies of its flags, or, without lock, as a loss
+unfoldable pub entryOf : Account → ℕ → List ℕ → Entry
+entryOf a got f = cond (locks f 0) (frameEntered a got (talliesOf a got (receivedFlags f))) (lossEntered a got)
+
+-- one frame: received and entered, or, without lock, entered as a loss, which leaves the store
 unfoldable pub framed : State → ℕ → List ℕ → State
-framed st got f =
-    cond (locks f 0)
-    (noted st (frameEntered (st .run .account) got (talliesOf (st .run .account) got (receivedFlags f))) (receivedStore f (st .store)))
-    (noted st (lossEntered (st .run .account) got) (st .store))
+framed st got f = noted st (entryOf (st .run .account) got f) (cond (locks f 0) (receivedStore f (st .store)) (st .store))
 
 -- an order: the first is taken, with a new account and a fresh store; a second one stops the run
 unfoldable pub orderCame : Phase → State → (start asked allowed : ℕ) → State
@@ -91,10 +92,6 @@ isStopped Unordered = false
 isStopped Going = false
 isStopped Stopped = true
 
--- one frame's entry: with the tallies of its flags, or, without lock, as a loss
-unfoldable pub entryOf : Account → ℕ → List ℕ → Entry
-entryOf a got f = cond (locks f 0) (frameEntered a got (talliesOf a got (receivedFlags f))) (lossEntered a got)
-
 -- by which refusal a frame stops the run: its entry's; before any order, and once the run is stopped, by none
 unfoldable pub frameRefusal : Phase → State → ℕ → List ℕ → ℕ
 frameRefusal Unordered st got f = 0
@@ -115,6 +112,24 @@ stepRefusal st s = refusalOf (readAt s 0) st s
 -- a refused record only stops the run: its figures, its account and the store stay
 abbrev pub RefusedOnlyStops : Type 0
 RefusedOnlyStops = (st : State) (s : List ℕ) → stepRefusal st s ≢ 0 → stepped st s ≡ record { run = stopped (st .run); store = st .store }
+
+-- a second order, or a frame before any
+unfoldable pub unnumbered : Phase → Read → Bool
+unnumbered Unordered End = false
+unnumbered Unordered (Refused refusal) = false
+unnumbered Unordered (Order start asked allowed next) = false
+unnumbered Unordered (Frame number from next) = true
+unnumbered Going End = false
+unnumbered Going (Refused refusal) = false
+unnumbered Going (Order start asked allowed next) = true
+unnumbered Going (Frame number from next) = false
+unnumbered Stopped read = false
+
+-- a record stops a run exactly by a refusal, or as one of these
+abbrev pub StopsExactly : Type 0
+StopsExactly =
+    (st : State) (s : List ℕ) → isStopped (st .run .phase) ≡ false
+    → (isStopped (stepped st s .run .phase) ≡ true) ↔ ((stepRefusal st s ≢ 0) ⊎ (unnumbered (st .run .phase) (readAt s 0) ≡ true))
 
 -- an order came, and nothing has stopped the run since
 unfoldable pub goesOn : Phase → Bool

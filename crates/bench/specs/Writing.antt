@@ -1,11 +1,10 @@
--- What a writer leaves in a buffer, the report in the parts in which it is written, and how long it can be.
+-- What a writer leaves in a buffer, and the report in the parts in which it is written.
 -- Assumes nothing.
 use mathlib.Core.Path.{_≡_}
 use mathlib.Core.List.{List, _++_}
-use Prim.Native.Nat.{ℕ, _+_, _≤_}
+use Prim.Native.Nat.{ℕ, _+_}
 use lib.ListN.{length, take}
-use Rattle.bench.specs.declared.Run.{Run}
-use Rattle.bench.specs.Report.{ascii, line, text}
+use Rattle.bench.specs.Report.{ascii, line}
 
 -- a text stands from place `at` on, up to place `end`, and what stood before it stays
 pub record Wrote (text out : List ℕ) (at : ℕ) (left : List ℕ) (end : ℕ) : Type 0 where
@@ -19,11 +18,3 @@ frameLines asked accepted missing = line (ascii "asked ") asked ++ (line (ascii 
 -- the lines of the tallies
 unfoldable pub tallyLines : (clean one two flagged : ℕ) → List ℕ
 tallyLines clean one two flagged = line (ascii "clean ") clean ++ (line (ascii "one ") one ++ (line (ascii "two ") two ++ line (ascii "flagged ") flagged))
-
--- room for every report: 45 bytes of names, seven line ends, seven numbers of 20 digits, and 21 bytes of a verdict that says not measured
-abbrev pub longest : ℕ
-longest = 213
-
--- no report is longer
-abbrev pub Bounded : Type 0
-Bounded = (run : Run) → length (text run) ≤ longest

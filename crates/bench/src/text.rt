@@ -3,8 +3,8 @@ ghost use mathlib.Core.Path.{_≡_};
 ghost use mathlib.Core.List.{_++_};
 ghost use Prim.Native.Nat.{_+_, _<_, _≤_};
 ghost use lib.ListN.{length, drop};
-ghost use Rattle.bench.specs.Report.{ascii, decimal, line, verdictLine, text, writtenBytes, written};
-ghost use Rattle.bench.specs.Writing.{Wrote, frameLines, tallyLines, longest};
+ghost use Rattle.bench.specs.Report.{ascii, decimal, line, verdictLine, text, writtenBytes, written, longest};
+ghost use Rattle.bench.specs.Writing.{Wrote, frameLines, tallyLines};
 use crate::Run;
 
 // Room for every report.

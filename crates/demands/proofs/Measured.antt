@@ -32,7 +32,7 @@ use Rattle.capture.specs.declared.Read.the-variants.{End, Refused, Order, Frame
 use Rattle.capture.specs.Capture.{readAt, nextOf, symbolsAt, inTurn}
 use Rattle.bench.specs.declared.Phase.{Phase}
 use Rattle.bench.specs.declared.Phase.the-variants.{Unordered, Going, Stopped}
-use Rattle.bench.specs.Run.{State, noted, framed, orderCame, frameCame, halted, cameAs, goesOn}
+use Rattle.bench.specs.Run.{State, noted, entryOf, framed, orderCame, frameCame, halted, cameAs, goesOn}
 use Rattle.bench.specs.Walk.{walked}
 use Rattle.bench.proofs.Walk.{came-stays, refused-stops}
 use Rattle.demands.specs.Verdict.{wordsWith, wordsIn}
@@ -108,7 +108,7 @@ module _ (start asked allowed : ℕ) (frames : ℕ → List ℕ) where
   after k = record { run = record { phase = Going; asked = asked; allowed = allowed; account = allAccepted start frames k }; store = storeAfter frames k }
 
   pub framed-next : (k : ℕ) → k < frameLimit → locks (frames k) 0 ≡ true → framed (after k) (inTurn start k) (frames k) ≡ after (suc k)
-  unfolding framed storeAfter
+  unfolding framed entryOf storeAfter
   framed-next k h l = rw (l, tallies-are (allAccepted start frames k) (inTurn start k) (frames k), sym (entered-next start frames k h)) refl
 
 -- ---- a run that loses its turn once
@@ -132,7 +132,7 @@ loss-missing : (a : Account) (got : ℕ) → lossEntered a got .refusal ≡ 0 �
 loss-missing a got z = rw (loss-taken a got z .taken) (omega arith)
 
 framed-lost : (st : State) (got : ℕ) (f : List ℕ) → (1 ≤ st .run .account .missing + ahead got (st .run .account .expected)) ⊎ (locks f 0 ≡ false) → Lost (framed st got f)
-unfolding framed
+unfolding framed entryOf
 framed-lost st got f h = go (locks f 0) refl h
   where
     lost : Lost (noted st (lossEntered (st .run .account) got) (st .store))
@@ -178,7 +178,7 @@ other number m h n = at (ℕ-discrete ((number + (2 ^ 32 - m % 2 ^ 32)) % 2 ^ 32
 -- a refused frame stops the run
 refused-lost : (st : State) (got : ℕ) (f : List ℕ) → locks f 0 ≡ true → frameEntered (st .run .account) got (talliesOf (st .run .account) got (receivedFlags f)) .refusal ≢ 0
     → Lost (framed st got f)
-unfolding framed
+unfolding framed entryOf
 refused-lost st got f l n = rw (l, ne-eqb _ 0 n) (inl refl)
 
 -- a frame that comes after k frames in their turn: it is the next one, or the turn is lost
@@ -216,7 +216,7 @@ noted-counted st e s C h = go (ℕ-discrete (e .refusal) 0)
     go (no n) = rw (ne-eqb (e .refusal) 0 n) C
 
 framed-counted : (st : State) (got : ℕ) (f : List ℕ) → Counted st → Counted (framed st got f)
-unfolding framed
+unfolding framed entryOf
 framed-counted st got f C = go (locks f 0) refl
   where
     a : Account

@@ -91,7 +91,7 @@ unmeasured s B = (λ e m. one-or-other (leb (flaggedWords m) (m .allowed)) (sym 
 -- ---- record by record
 
 -- states that follow one another by steps come to what stepping through comes to
-pub stepwise : (ps : List (List ℕ)) (states : ℕ → State) → ((k : ℕ) → k < length ps → states (suc k) ≡ stepped (states k) (getD ps k [])) → through (states 0) ps ≡ states (length ps)
+stepwise : (ps : List (List ℕ)) (states : ℕ → State) → ((k : ℕ) → k < length ps → states (suc k) ≡ stepped (states k) (getD ps k [])) → through (states 0) ps ≡ states (length ps)
 unfolding through
 stepwise [] states call = refl
 stepwise (p ∷ ps) states call =

@@ -8,8 +8,7 @@ ghost use Rattle.bits.specs.Bits.{AllBytes};
 ghost use Rattle.capture.specs.Capture.{layout, wanted};
 ghost use Rattle.bench.specs.Run.{stopped, stepped};
 ghost use Rattle.bench.specs.Walk.{followed};
-ghost use Rattle.bench.specs.Report.{text};
-ghost use Rattle.bench.specs.Writing.{longest};
+ghost use Rattle.bench.specs.Report.{text, longest};
 
 // Up to which place a buffer was filled, and whether a read failed: that is no end of the input.
 struct Filled {
