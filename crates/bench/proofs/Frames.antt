@@ -17,7 +17,7 @@ use Rattle.account.specs.declared.Tallies.{Tallies}
 use Rattle.account.specs.Account.{talliesOf, frameEntered, lossEntered}
 use Rattle.bench.specs.declared.Run.{Run}
 use Rattle.bench.specs.declared.Stepped.{Stepped}
-use Rattle.bench.specs.Run.{State, stopped, going, afterEntry, framed, entryOf}
+use Rattle.bench.specs.Run.{going, afterEntry, framed, entryOf}
 
 -- lock by the number answered
 locked : (l : Bool) (r : ℕ) → r ≡ cond l 0 5 → r ≡ 0 → l ≡ true
