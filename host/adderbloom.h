@@ -2,10 +2,10 @@
  * in C. Link with libadderbloom.a: x86-64, System V calling convention.
  *
  * Every call ends, and any bytes, lengths and stored numbers are lawful. Nothing allocates or keeps state of its own: what is kept between calls is the caller's,
- * and calls that share no memory may run at once. A call takes up to 70 kB of stack, and of the C library memcpy and memset.
+ * and calls that share no memory may run at once. A call needs up to 70 kB of stack, and calls memcpy and memset.
  *
- * Refusals have numbers. Where a call answers one, 0 is done; any other is the lowest of those that apply, and a refused call changes nothing, but that a record
- * refused in a run stops the run.
+ * Refusals have numbers. Where a call answers one, 0 says that nothing was refused; any other is the lowest of those that apply, and a refused call changes nothing,
+ * except that a record refused in a run stops the run.
  *   by lr800_send, lr800_receive, and 2 by lr800_run_step, 4 by lr800_account_enter
  *     1  input is not LR800_LANES bytes long (sending), LR800_FRAME (receiving)
  *     2  the store is not LR800_STORE bytes long
@@ -47,7 +47,7 @@ uint32_t lr800_send(const uint8_t *input, size_t input_length, uint8_t *store, s
 
 /* Receives a frame. The store is the receiver's own: lend it to every call of a stream, and to no sender.
  * Answers 0, 1, 2, 3, 4 or 5. At 0, store, output and flags have been written in full. A frame refused by 5 is lost: it must be entered as a loss
- * (lr800_account_lose), or the account does not know of it. One refused by 1 to 4 was not measured: the run it belongs to is stopped.
+ * (lr800_account_lose), or the account does not know of it. One refused by 1 to 4 was not measured: the host must stop the run.
  * If both stores were fresh at the first frame and every frame was received, each lane comes back 36 blocks (1,440 bits) later, behind zeros. After a frame
  * that was lost or refused, the next 36 blocks of each lane may be wrong, so the next two frames. */
 uint32_t lr800_receive(const uint8_t *input, size_t input_length, uint8_t *store, size_t store_length, uint8_t *output, size_t output_length,
@@ -69,18 +69,21 @@ typedef struct lr800_account {
 /* The account of a new order: start is expected, and every other number is 0. */
 void lr800_account_open(lr800_account *account, uint32_t start);
 
-/* Enters a frame that was received, by its number and its flag bytes: the frames of a gap before it are missing. Answers 0, 4, 10, 11 or 12; a refused entry stops the run.
+/* Enters a frame that was received, by its number and its flag bytes: the frames of a gap before it are missing. Answers 0, 4, 10, 11 or 12; a
+ * frame that is refused was not measured, and the host must stop the run: give lr800_verdict a `stopped` other than 0.
  * A frame that is refused here has moved the store that was lent to lr800_receive: only a copy made before can undo that. lr800_run_step keeps this rule itself. */
 uint32_t lr800_account_enter(lr800_account *account, uint32_t number, const uint8_t *flags, size_t flags_length);
 
-/* Enters a frame that lr800_receive refused by 5 as a loss: it is missing, and the frames of a gap before it. Answers 0, 10 or 11; a refused entry stops the run. */
+/* Enters a frame that lr800_receive refused by 5 as a loss: it is missing, and the frames of a gap before it. Answers 0, 10 or 11; where it is refused the host
+ * must stop the run. */
 uint32_t lr800_account_lose(lr800_account *account, uint32_t number);
 
 /* What is said of a run. What is not set says not measured. */
 enum { LR800_NOT_MEASURED = 0, LR800_PASS = 1, LR800_FAIL = 2 };
 
-/* The verdict on the numbers of a run. Give 0 for stopped only if an order came first and alone, the capture was read to its end, no record and no entry was refused, and no
- * frame was refused but by 5, each of these entered as a loss.
+/* The verdict on the numbers of a run. Give 0 for stopped only if an order came first and alone and the account was opened with its start number; the capture was read
+ * to its end; every frame of it was given to lr800_receive and entered, once and in its turn, with its own flags or, refused by 5, as a loss; and nothing was refused
+ * but by 5.
  * Only the numbers given are judged: no limit is applied, and nothing is known of late frames.
  *   LR800_NOT_MEASURED  stopped is not 0, or asked is 0, or accepted is not asked, or missing is not 0, or the four tallies do not total 384 times accepted
  *   LR800_PASS          else, if flagged is at most allowed
@@ -107,7 +110,8 @@ typedef struct lr800_record {
   size_t next;      /* the next place; neither the end nor a refusal moves it */
 } lr800_record;
 
-/* What stands at a place of a capture. A place at or beyond the end is the end. */
+/* What stands at a place of a capture. A place at or beyond the end is the end. A refusal is no end, though its kind is LR800_RECORD_NONE too: look at `refusal` first.
+ * The place does not move then, and the host must stop the run, or step over the bytes from there on. */
 lr800_record lr800_read(const uint8_t *capture, size_t capture_length, size_t place);
 
 /* How many bytes of a record to ask for, by those of it that are there: 4, then LR800_ORDER_BYTES or LR800_FRAME_BYTES by its length, and 4 where that is not lawful.
@@ -134,21 +138,22 @@ void lr800_run_open(lr800_run *run);
  * speak of them. No bytes are no record. The store is the run's own: lend it to every step of the run, and to nothing else; the first order clears it.
  * The first order opens the account; a frame is received and entered, or without lock entered as a loss; a refused record or entry, a second order and a frame before
  * any order stop the run, and nothing else changes. A stopped run changes no more.
- * Answers 2, and nothing is changed; else 6 to 11, by which the record or its entry (of a frame without lock: the loss) was refused, and the run is stopped; else 0. A second
- * order and a frame before any order have no number and answer 0: whether a run is stopped is told by its phase. A frame without lock answers 0 once its loss is entered, never
- * 5: it shows in account.missing. Whatever comes to a stopped run answers 0, or 2. */
+ * Answers 2, and nothing is changed: the piece was not taken, give it again with a whole store; else 6 to 11, by which the record or its entry (of a frame without
+ * lock: the loss) was refused, and the run is stopped; else 0. A second order and a frame before any order have no number and answer 0: whether a run is stopped is told
+ * by its phase. A frame without lock answers 0 once its loss is entered, never 5: it shows in account.missing. Whatever comes to a stopped run answers 0, or 2. */
 uint32_t lr800_run_step(lr800_run *run, uint8_t *store, size_t store_length, const uint8_t *piece, size_t piece_length);
 
 /* Stops a run, as a host must whose input could not be read to its end: a read that fails is no end. Its figures and its account stay, and its verdict is LR800_NOT_MEASURED. */
 void lr800_run_stop(lr800_run *run);
 
-/* The verdict of a run: LR800_NOT_MEASURED unless it is going on and was measured. */
+/* The verdict of a run, once every byte was given: before that it speaks of the bytes given so far. LR800_NOT_MEASURED before an order and once stopped; else what
+ * lr800_verdict says of its figures and its account. */
 uint32_t lr800_run_verdict(lr800_run run);
 
 #define LR800_REPORT 213 /* room for every report */
 
-/* The report of a run as text, eight lines, each ended by one 0A, at the beginning of a buffer; no 00 is set behind it. Answers how many bytes it takes. A buffer too small for
- * it is not touched, and the answer is 0. */
+/* The report of a run, once every byte was given, as text: eight lines, each ended by one 0A, at the beginning of a buffer; no 00 is set behind it. Answers how many bytes
+ * it takes. A buffer too small for it is not touched, and the answer is 0. */
 size_t lr800_run_report(lr800_run run, uint8_t *text, size_t text_length);
 
 /* the structs are laid out as in the archive, or this does not compile */

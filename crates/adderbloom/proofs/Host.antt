@@ -1,6 +1,6 @@
 -- A whole run by calls from C comes to the capture's run, and so to its verdict and its report.
 -- Assumes nothing.
-use mathlib.Core.Path.{_≡_, refl, sym, ap, _∙_}
+use mathlib.Core.Path.{_≡_, refl, sym, ap, _∙_, subst}
 use mathlib.Core.Logic.{_⊎_, inl, inr, _↔_}
 use mathlib.Core.List.{List, [], _∷_}
 use Prim.Native.Nat.{ℕ, zero, suc, _≤_}
@@ -10,16 +10,17 @@ use lib.Seq.{take-length}
 use borrow.Author.Tests.{eq-eqb}
 use Rattle.account.specs.declared.Verdict.{Verdict}
 use Rattle.account.specs.declared.Verdict.the-variants.{NotMeasured, Pass, Fail}
-use Rattle.account.specs.Account.{verdict, verdictNumber}
+use Rattle.account.specs.Account.{verdictNumber}
 use Rattle.bench.specs.declared.Run.{Run as Bench}
 use Rattle.bench.specs.declared.Phase.{Phase}
 use Rattle.bench.specs.declared.Phase.the-variants.{Unordered, Going, Stopped}
-use Rattle.bench.specs.Run.{State, begun, stopped, stepped, stepRefusal, goesOn, verdictOf}
+use Rattle.bench.specs.Run.{State, begun, stopped, stepped, stepRefusal, verdictOf}
 use Rattle.bench.specs.Walk.{pieces, through, examined}
-use Rattle.bench.specs.Report.{writtenBytes, written}
+use Rattle.bench.specs.Report.{text, writtenBytes, written}
+use Rattle.demands.specs.Verdict.{Line}
 use Rattle.bench.proofs.Walk.{step-piece, through-stays}
 use Rattle.bench.proofs.Stores.{any-store, store-stays}
-use Rattle.demands.proofs.Verdict.{passes, fails, unmeasured, on-the-way}
+use Rattle.demands.proofs.Verdict.{passes, fails, unmeasured, on-the-way, stopped-unmeasured, stopped-says}
 use Rattle.adderbloom.specs.Run.{phaseNumber, phaseOf, runOf, kept, stateOf, Steps}
 use Rattle.adderbloom.specs.Host.{Gives, Hosted, HostedRun, HostedVerdict, HostedReport, HostedExists, StoppedVerdict}
 use Rattle.adderbloom.specs.declared.runs.Run.{Run}
@@ -150,5 +151,9 @@ unfolding calls at begins through
 hosted-exists s store l = (kept (at s store l (length (pieces s)) .run), calls s store l, refl)
 
 pub stopped-verdict : StoppedVerdict
-unfolding verdictOf goesOn verdict verdictNumber
-stopped-verdict r = ap (λ (b : Bench). verdictNumber (verdictOf b)) (kept-back (stopped (runOf r)))
+unfolding verdictNumber
+stopped-verdict r =
+    let e = kept-back (stopped (runOf r)) in (
+      ap (λ (b : Bench). verdictNumber (verdictOf b)) e ∙ ap verdictNumber (stopped-unmeasured (runOf r)),
+      subst (λ (b : Bench). Line "verdict NOT MEASURED" (text b)) (sym e) (stopped-says (runOf r)),
+    )

@@ -12,11 +12,11 @@ use Rattle.bench.specs.declared.Phase.the-variants.{Stopped}
 use Rattle.bench.specs.Run.{begun, stopped, verdictOf}
 use Rattle.bench.specs.Walk.{pieces, examined}
 use Rattle.bench.specs.Report.{text, writtenBytes, written}
-use Rattle.demands.specs.Verdict.{Measured, flaggedWords, Examination}
+use Rattle.demands.specs.Verdict.{Measured, flaggedWords, Examination, Line}
 use Rattle.adderbloom.specs.Run.{phaseOf, runOf, kept, Steps}
 use Rattle.adderbloom.specs.declared.runs.Run.{Run}
 
--- what a step is given: a piece, as `lr800_wanted` cuts it off, or bytes that begin with it, as where the reader's places are gone by
+-- what a step is given: a piece, as `lr800_wanted` cuts it off, or bytes that begin with it, as by a host that goes by `lr800_read`'s places and gives all that is left
 abbrev pub Gives : List ℕ → List ℕ → Type 0
 Gives bytes piece = (bytes ≡ piece) ⊎ (take (wanted bytes) bytes ≡ piece)
 
@@ -58,6 +58,9 @@ HostedReport =
 abbrev pub HostedExists : Type 0
 HostedExists = (s store : List ℕ) → length store ≡ 2880 → (r : Run) × (h : Hosted s r) × (h .stores 0 ≡ store)
 
--- where a read failed, and `lr800_run_stop` was called, the verdict is 0, whatever the run
+-- where a read failed, and `lr800_run_stop` was called, the verdict is 0 and the report says so, whatever the run
 abbrev pub StoppedVerdict : Type 0
-StoppedVerdict = (r : Run) → verdictNumber (verdictOf (runOf (kept (stopped (runOf r))))) ≡ 0
+StoppedVerdict =
+    (r : Run)
+    → (verdictNumber (verdictOf (runOf (kept (stopped (runOf r))))) ≡ 0)
+    × Line "verdict NOT MEASURED" (text (runOf (kept (stopped (runOf r)))))

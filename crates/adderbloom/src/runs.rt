@@ -1,4 +1,4 @@
-// A whole run lent by a host: the record after record of a capture, the verdict and the report.
+// A whole run lent by a host: a capture record by record, the verdict and the report.
 ghost use mathlib.Core.Path.{_≡_};
 ghost use lib.ListN.{length};
 ghost use Rattle.bits.specs.Bits.{copied};

@@ -1,7 +1,7 @@
 pub mod Frames
 pub mod Steps
-pub mod Stops
 pub mod Walk
+pub mod Stops
 pub mod Stores
 pub mod Left
 pub mod Decimal

@@ -1,4 +1,4 @@
--- What stops a run: a refused record does that and nothing else, and only it, a second order and a frame before any do it.
+-- What stops a run: a refused record, a second order and a frame before any, and nothing else; they do nothing else; and a stopped run stays as it is.
 -- Assumes nothing.
 use mathlib.Core.Path.{_≡_, refl, sym, ap, _∙_, subst}
 use mathlib.Core.Bool.{true, false, false≢true}
@@ -15,7 +15,8 @@ use Rattle.capture.specs.Capture.{readAt, symbolsAt}
 use Rattle.capture.proofs.Found.{Stands, stands}
 use Rattle.bench.specs.declared.Phase.{Phase}
 use Rattle.bench.specs.declared.Phase.the-variants.{Unordered, Going, Stopped}
-use Rattle.bench.specs.Run.{State, stopped, isStopped, afterEntry, noted, entryOf, framed, orderCame, frameCame, frameRefusal, halted, cameAs, refusalOf, stepped, stepRefusal, unnumbered, RefusedOnlyStops, StopsExactly}
+use Rattle.bench.proofs.Walk.{came-stays}
+use Rattle.bench.specs.Run.{State, stopped, isStopped, afterEntry, noted, entryOf, framed, orderCame, frameCame, frameRefusal, halted, cameAs, refusalOf, stepped, stepRefusal, unnumbered, StopsExactly, OnlyStops, StoppedStays}
 
 noted-refused : (st : State) (e : Entry) (s : List ℕ) → e .refusal ≢ 0 → noted st e s ≡ record { run = stopped (st .run); store = st .store }
 noted-refused st e s n = rw (ne-eqb (e .refusal) 0 n) refl
@@ -23,21 +24,6 @@ noted-refused st e s n = rw (ne-eqb (e .refusal) 0 n) refl
 framed-refused : (st : State) (got : ℕ) (f : List ℕ) → entryOf (st .run .account) got f .refusal ≢ 0 → framed st got f ≡ record { run = stopped (st .run); store = st .store }
 unfolding framed
 framed-refused st got f n = noted-refused st (entryOf (st .run .account) got f) _ n
-
-came-refused : (read : Read) (p : Phase) (st : State) (s : List ℕ) → st .run .phase ≡ p → refusalOf read st s ≢ 0 → cameAs read st s ≡ record { run = stopped (st .run); store = st .store }
-unfolding refusalOf frameRefusal cameAs halted frameCame isStopped
-came-refused End p st s e n = absurd (n refl)
-came-refused (Refused refusal) Unordered st s e n = rw e refl
-came-refused (Refused refusal) Going st s e n = rw e refl
-came-refused (Refused refusal) Stopped st s e n = absurd (n (rw e refl))
-came-refused (Order start asked allowed next) p st s e n = absurd (n refl)
-came-refused (Frame number from next) Unordered st s e n = absurd (n (rw e refl))
-came-refused (Frame number from next) Going st s e n = ap (λ (p : Phase). frameCame p st number (symbolsAt s from)) e ∙ framed-refused st number (symbolsAt s from) (λ z. n (ap (λ (p : Phase). frameRefusal p st number (symbolsAt s from)) e ∙ z))
-came-refused (Frame number from next) Stopped st s e n = absurd (n (rw e refl))
-
-pub refused-only-stops : RefusedOnlyStops
-unfolding stepped stepRefusal
-refused-only-stops st s n = came-refused (readAt s 0) (st .run .phase) st s refl n
 
 -- ---- exactly these
 
@@ -79,3 +65,41 @@ stops (Frame number from next) Going st s r e h =
 pub stops-exactly : StopsExactly
 unfolding stepped stepRefusal
 stops-exactly st s h = stops (readAt s 0) (st .run .phase) st s refl refl h
+
+-- ---- and nothing else
+
+framed-only : (st : State) (got : ℕ) (f : List ℕ) → isStopped (framed st got f .run .phase) ≡ true → framed st got f ≡ record { run = stopped (st .run); store = st .store }
+framed-only st got f h = go (framed-stops st got f .0 h)
+  where
+    go : (entryOf (st .run .account) got f .refusal ≢ 0) ⊎ (false ≡ true) → framed st got f ≡ record { run = stopped (st .run); store = st .store }
+    go (inl n) = framed-refused st got f n
+    go (inr e) = absurd (false≢true e)
+
+came-only : (read : Read) (p : Phase) (st : State) (s : List ℕ) → st .run .phase ≡ p → isStopped p ≡ false → isStopped (cameAs read st s .run .phase) ≡ true
+    → cameAs read st s ≡ record { run = stopped (st .run); store = st .store }
+unfolding cameAs isStopped halted orderCame frameCame
+came-only read Stopped st s e h t = absurd (false≢true (sym h))
+came-only End Unordered st s e h t = absurd (false≢true (sym (ap isStopped e) ∙ t))
+came-only End Going st s e h t = absurd (false≢true (sym (ap isStopped e) ∙ t))
+came-only (Refused refusal) Unordered st s e h t = rw e refl
+came-only (Refused refusal) Going st s e h t = rw e refl
+came-only (Order start asked allowed next) Unordered st s e h t = absurd (false≢true (ap (λ (p : Phase). isStopped (orderCame p st start asked allowed .run .phase)) (sym e) ∙ t))
+came-only (Order start asked allowed next) Going st s e h t = rw e refl
+came-only (Frame number from next) Unordered st s e h t = rw e refl
+came-only (Frame number from next) Going st s e h t =
+    ap (λ (p : Phase). frameCame p st number (symbolsAt s from)) e
+    ∙ framed-only st number (symbolsAt s from) (ap (λ (p : Phase). isStopped (frameCame p st number (symbolsAt s from) .run .phase)) (sym e) ∙ t)
+
+pub only-stops : OnlyStops
+unfolding stepped
+only-stops st s h t = came-only (readAt s 0) (st .run .phase) st s refl h t
+
+is-stopped : (p : Phase) → isStopped p ≡ true → p ≡ Stopped
+unfolding isStopped
+is-stopped Unordered e = absurd (false≢true e)
+is-stopped Going e = absurd (false≢true e)
+is-stopped Stopped e = refl
+
+pub stopped-stays : StoppedStays
+unfolding stepped
+stopped-stays st s h = came-stays st (is-stopped (st .run .phase) h) (readAt s 0) s

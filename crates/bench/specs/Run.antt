@@ -109,10 +109,6 @@ refusalOf (Frame number from next) st s = frameRefusal (st .run .phase) st numbe
 unfoldable pub stepRefusal : State → List ℕ → ℕ
 stepRefusal st s = refusalOf (readAt s 0) st s
 
--- a refused record only stops the run: its figures, its account and the store stay
-abbrev pub RefusedOnlyStops : Type 0
-RefusedOnlyStops = (st : State) (s : List ℕ) → stepRefusal st s ≢ 0 → stepped st s ≡ record { run = stopped (st .run); store = st .store }
-
 -- a second order, or a frame before any
 unfoldable pub unnumbered : Phase → Read → Bool
 unnumbered Unordered End = false
@@ -130,6 +126,16 @@ abbrev pub StopsExactly : Type 0
 StopsExactly =
     (st : State) (s : List ℕ) → isStopped (st .run .phase) ≡ false
     → (isStopped (stepped st s .run .phase) ≡ true) ↔ ((stepRefusal st s ≢ 0) ⊎ (unnumbered (st .run .phase) (readAt s 0) ≡ true))
+
+-- and what stops it does nothing else: its figures, its account and the store stay
+abbrev pub OnlyStops : Type 0
+OnlyStops =
+    (st : State) (s : List ℕ) → isStopped (st .run .phase) ≡ false → isStopped (stepped st s .run .phase) ≡ true
+    → stepped st s ≡ record { run = stopped (st .run); store = st .store }
+
+-- a stopped run changes no more, nor does its store
+abbrev pub StoppedStays : Type 0
+StoppedStays = (st : State) (s : List ℕ) → isStopped (st .run .phase) ≡ true → stepped st s ≡ st
 
 -- an order came, and nothing has stopped the run since
 unfoldable pub goesOn : Phase → Bool

@@ -9,7 +9,7 @@ ghost use lib.ListN.{length};
 ghost use Rattle.bench.specs.Run.{begun, going, stopped, afterEntry, isStopped, framed, entryOf, orderCame, frameCame, frameRefusal, halted, stepped, stepRefusal, goesOn, verdictOf};
 ghost use Rattle.bench.specs.Walk.{examined};
 
-// No order yet; going on; stopped by a refusal, a second order or a record before the order.
+// No order yet; going on; stopped by a refusal, a second order, a frame before any order or a read that failed.
 pub enum Phase {
     Unordered,
     Going,

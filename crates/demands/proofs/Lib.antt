@@ -8,6 +8,7 @@ pub mod Labels
 pub mod ReedSolomon
 pub mod Exceeded
 pub mod Measured
+pub mod Numbers
 pub mod Walked
 pub mod Lines
 pub mod Verdict

@@ -56,10 +56,10 @@ frameTallies f = record { clean = wordsWith 0 f; one = wordsWith 1 f; two = word
 abbrev pub allTallies : (ℕ → List ℕ) → ℕ → Tallies
 allTallies frames k = record { clean = wordsIn 0 frames k; one = wordsIn 1 frames k; two = wordsIn 2 frames k; flagged = wordsIn 3 frames k }
 
-tallies-are : (a : Account) (got : ℕ) (f : List ℕ) → talliesOf a got (receivedFlags f) ≡ frameTallies f
+pub tallies-are : (a : Account) (got : ℕ) (f : List ℕ) → talliesOf a got (receivedFlags f) ≡ frameTallies f
 tallies-are a got f = rw (counts a got f 0, counts a got f 1, counts a got f 2, counts a got f 3) refl
 
-words-due : (f : List ℕ) → total (frameTallies f) ≡ 384
+pub words-due : (f : List ℕ) → total (frameTallies f) ≡ 384
 words-due f =
     ap total (sym (tallies-are (opened 0) 0 f)) ∙ brings (opened 0) 0 (receivedFlags f) (λ i l. rw (flag-at f i l) (flag-most (mend (arrived f i))))
 

@@ -5,6 +5,7 @@ use Rattle.demands.proofs.Return.{return, one-frame}
 use Rattle.demands.proofs.Trial.{refused-exactly, flips-counted, trials-exist, undamaged-exist}
 use Rattle.demands.proofs.OneForAll.{one-for-all, two-flips}
 use Rattle.demands.proofs.Tallies.{tallies-alike}
+use Rattle.demands.proofs.Numbers.{step-numbers}
 use Rattle.demands.proofs.Verdict.{pass-exactly, fail-exactly, not-measured-exactly, program-says, measured-once, examinations-exist, arrived-always, never-pass, all-counted, always-counted}
 use Rattle.demands.proofs.Labels.{spans-label}
 use Rattle.demands.proofs.ReedSolomon.{carries-exactly, reed-solomon-bound, four-pairs}
@@ -13,6 +14,7 @@ use Rattle.demands.proofs.Exceeded.{spans-exist, other-places, other-pa
 pub demands : Demands
 demands =
     record {
+      stepNumbers = step-numbers;
       returns = return;
       oneFrame = one-frame;
       undamaged = undamaged-exist;

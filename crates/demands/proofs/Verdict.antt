@@ -172,9 +172,13 @@ unfolding words tabulate
 not-measured-exactly s report B R = carried s report R "verdict NOT MEASURED" NotMeasured refl (unmeasured s B)
 
 -- a run that was stopped
-stopped-verdict : (r : Run) → verdictOf (stopped r) ≡ NotMeasured
+pub stopped-unmeasured : (r : Run) → verdictOf (stopped r) ≡ NotMeasured
 unfolding verdictOf goesOn verdict
-stopped-verdict r = refl
+stopped-unmeasured r = refl
+
+pub stopped-says : (r : Run) → Line "verdict NOT MEASURED" (text (stopped r))
+unfolding words tabulate
+stopped-says r = line-stands (stopped r) "verdict NOT MEASURED" NotMeasured refl (stopped-unmeasured r)
 
 -- the report in a buffer that holds it
 examination : (s buffer : List ℕ) → length (text (examined s .run)) ≤ length buffer
@@ -187,7 +191,7 @@ unfolding words tabulate
 program-says s =
     let r = examined s .run in
     let e = examination s (text r) (omega arith) in
-    (subst (Examination s) (report-is s _ e) e, line-stands (stopped r) "verdict NOT MEASURED" NotMeasured refl (stopped-verdict r))
+    (subst (Examination s) (report-is s _ e) e, stopped-says r)
 
 pub examinations-exist : ExaminationsExist
 unfolding examination

@@ -4,11 +4,13 @@ use Rattle.demands.specs.Return.{Return, UndamagedExist, OneFrame}
 use Rattle.demands.specs.Trial.{FlipsCounted, RefusedExactly, TrialsExist}
 use Rattle.demands.specs.OneForAll.{OneForAll, TwoFlips}
 use Rattle.demands.specs.Tallies.{TalliesAlike}
-use Rattle.demands.specs.Verdict.{PassExactly, FailExactly, NotMeasuredExactly, ProgramSays, MeasuredOnce, ExaminationsExist, ArrivedAlways, NeverPass, AllCounted, AlwaysCounted}
+use Rattle.demands.specs.Verdict.{PassExactly, FailExactly, NotMeasuredExactly, ProgramSays, MeasuredOnce, ExaminationsExist, ArrivedAlways, NeverPass, AllCounted, AlwaysCounted, StepNumbers}
 use Rattle.demands.specs.ReedSolomon.{SpansExist, SpansLabel, CarriesExactly, ReedSolomonBound, FourPairs, OtherPlaces, OtherPairs}
 
--- demands 2 and 3, sentence by sentence
+-- the demands over streams and captures, sentence by sentence
 pub record Demands : Type 0 where
+  -- demand 1: by which numbers a record is refused in a run
+  pub stepNumbers : StepNumbers
   -- demand 2: an undamaged stream comes back; one frame alone; and there are such streams
   pub returns : Return
   pub oneFrame : OneFrame

@@ -18,7 +18,7 @@ use Rattle.capture.specs.declared.Read.the-variants.{Order, Frame}
 use Rattle.capture.specs.Capture.{layout, readAt, orderRecord, inTurn, frameRecords}
 use Rattle.bench.specs.declared.Run.{Run}
 use Rattle.bench.specs.declared.Phase.the-variants.{Going}
-use Rattle.bench.specs.Run.{State, fresh, stepped}
+use Rattle.bench.specs.Run.{State, fresh, stepped, stepRefusal}
 use Rattle.bench.specs.Walk.{examined, pieces, followed}
 use Rattle.bench.specs.Report.{ascii, text, writtenBytes, written}
 
@@ -172,3 +172,7 @@ AllCounted =
 -- and whatever the verdict, the report shows 384 words for each frame accepted
 abbrev pub AlwaysCounted : Type 0
 AlwaysCounted = (s : List ℕ) → total (examined s .run .account .words) ≡ 384 * examined s .run .account .accepted
+
+-- the numbers by which a record stops a run: 6 to 11. 12 never comes, since a frame that was received brings its 384 words
+abbrev pub StepNumbers : Type 0
+StepNumbers = (st : State) (s : List ℕ) → (stepRefusal st s ≡ 0) ⊎ ((6 ≤ stepRefusal st s) × (stepRefusal st s ≤ 11))
