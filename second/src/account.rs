@@ -25,17 +25,28 @@ pub struct Account {
     pub flagged: u64,
 }
 
+/// The account with these numbers besides: accepted, missing and the tallies.
+pub fn account(expected: u32, [accepted, missing, clean, one, two, flagged]: [u64; 6]) -> Account {
+    Account {
+        expected,
+        accepted,
+        missing,
+        clean,
+        one,
+        two,
+        flagged,
+    }
+}
+
+/// Accepted, missing and the tallies.
+pub fn numbers(account: Account) -> [u64; 6] {
+    let [clean, one, two, flagged] = tallies(account);
+    [account.accepted, account.missing, clean, one, two, flagged]
+}
+
 /// The account of a new order.
 pub fn opened(start: u32) -> Account {
-    Account {
-        expected: start,
-        accepted: 0,
-        missing: 0,
-        clean: 0,
-        one: 0,
-        two: 0,
-        flagged: 0,
-    }
+    account(start, [0; 6])
 }
 
 /// Its tallies as `enter` and `verdict` take them.
@@ -139,24 +150,6 @@ mod tests {
 
     const CLEAN: [u64; 4] = [384, 0, 0, 0];
     const MIXED: [u64; 4] = [300, 50, 30, 4];
-
-    fn account(expected: u32, numbers: [u64; 6]) -> Account {
-        let [accepted, missing, clean, one, two, flagged] = numbers;
-        Account {
-            expected,
-            accepted,
-            missing,
-            clean,
-            one,
-            two,
-            flagged,
-        }
-    }
-
-    fn numbers(account: Account) -> [u64; 6] {
-        let [clean, one, two, flagged] = tallies(account);
-        [account.accepted, account.missing, clean, one, two, flagged]
-    }
 
     /// A frame with its tallies, or a loss.
     fn entry(before: Account, got: u32, frame: Option<[u64; 4]>) -> (u32, Account) {

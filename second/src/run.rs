@@ -2,7 +2,7 @@
 //! report.
 
 use crate::account::{
-    count_flags, enter, lose, opened, tallies, verdict, Account, FAIL, NOT_MEASURED, PASS,
+    count_flags, enter, lose, numbers, opened, tallies, verdict, Account, FAIL, NOT_MEASURED, PASS,
 };
 use crate::capture::{length, Answer, Order, Reader, FRAME_RECORD, LENGTH_BYTES};
 use crate::lanes::{LANES_BYTES, STORE_BYTES};
@@ -141,15 +141,7 @@ impl Run {
 
 /// Every line ends in one byte 0A, the last too.
 pub fn report(asked: u32, account: Account, verdict: u32) -> String {
-    let Account {
-        expected: _,
-        accepted,
-        missing,
-        clean,
-        one,
-        two,
-        flagged,
-    } = account;
+    let [accepted, missing, clean, one, two, flagged] = numbers(account);
     let verdict = match verdict {
         PASS => "PASS",
         FAIL => "FAIL",

@@ -40,10 +40,10 @@ fn phase_of(n: u32) -> bench::Phase
     if n == 0 {
         return bench::Phase::Unordered;
     }
-    if n == 1 {
-        return bench::Phase::Going;
+    if n != 1 {
+        return bench::Phase::Stopped;
     }
-    bench::Phase::Stopped
+    bench::Phase::Going
 }
 
 // The run that a host keeps.

@@ -29,9 +29,9 @@ unlocked true r e n = absurd (n e)
 unlocked false r e n = refl
 
 -- a choice of one
-either : (b : Bool) (s : List ℕ) → cond b s s ≡ s
-either true s = refl
-either false s = refl
+same-either-way : (b : Bool) (s : List ℕ) → cond b s s ≡ s
+same-either-way true s = refl
+same-either-way false s = refl
 
 module _ (run : Run) (s k f o g : List ℕ) (got number : ℕ) (s′ o′ g′ : List ℕ) (copy : k ≡ s) (R : Receives base f k o g number s′ o′ g′)
     (frame : length f ≡ 6144) (store : length k ≡ 2880) (lanes : length o ≡ 5280) (flags : length g ≡ 384) where
@@ -47,7 +47,7 @@ module _ (run : Run) (s k f o g : List ℕ) (got number : ℕ) (s′ o′ g′ :
     unfolding framed entryOf
     lost n is =
         let l = unlocked (locks f 0) number by-lock n in
-        (rw (answer, l, sym is) (ap (λ (x : List ℕ). record { run = afterEntry run e; store = x }) (sym (either (eqb (e .refusal) 0) s))), rw (answer, l, sym is) refl)
+        (rw (answer, l, sym is) (ap (λ (x : List ℕ). record { run = afterEntry run e; store = x }) (sym (same-either-way (eqb (e .refusal) 0) s))), rw (answer, l, sym is) refl)
 
     module _ (z : number ≡ 0) (t : Tallies) (tallies : t ≡ talliesOf (run .account) got g′) (is : e ≡ frameEntered (run .account) got t) where
       entry : e ≡ frameEntered (run .account) got (talliesOf (run .account) got (receivedFlags f))

@@ -33,23 +33,23 @@ unfolding goesOn
 unordered-goes e = false≢true (ap goesOn e)
 
 -- a record has the same effect on the run, whatever the store before the order
-came-alike : (r : Run) (s t : List ℕ) (p : Phase) → r .phase ≡ p → (r .phase ≡ Going → s ≡ t) → (read : Read) (piece : List ℕ)
+came-whatever : (r : Run) (s t : List ℕ) (p : Phase) → r .phase ≡ p → (r .phase ≡ Going → s ≡ t) → (read : Read) (piece : List ℕ)
     → Alike (cameAs read (record { run = r; store = s }) piece) (cameAs read (record { run = r; store = t }) piece)
 unfolding cameAs orderCame frameCame halted
-came-alike r s t Going e h read piece = rw (h e) (record { run = refl; store = λ _. refl })
-came-alike r s t Stopped e h read piece =
+came-whatever r s t Going e h read piece = rw (h e) (record { run = refl; store = λ _. refl })
+came-whatever r s t Stopped e h read piece =
     rw (came-stays (record { run = r; store = s }) e read piece, came-stays (record { run = r; store = t }) e read piece) (record { run = refl; store = h })
-came-alike r s t Unordered e h End piece = record { run = refl; store = h }
-came-alike r s t Unordered e h (Refused refusal) piece = rw e (record { run = refl; store = λ g. absurd (stopped-goes g) })
-came-alike r s t Unordered e h (Order start asked allowed next) piece = rw e (record { run = refl; store = λ _. refl })
-came-alike r s t Unordered e h (Frame number from next) piece = rw e (record { run = refl; store = λ g. absurd (stopped-goes g) })
+came-whatever r s t Unordered e h End piece = record { run = refl; store = h }
+came-whatever r s t Unordered e h (Refused refusal) piece = rw e (record { run = refl; store = λ g. absurd (stopped-goes g) })
+came-whatever r s t Unordered e h (Order start asked allowed next) piece = rw e (record { run = refl; store = λ _. refl })
+came-whatever r s t Unordered e h (Frame number from next) piece = rw e (record { run = refl; store = λ g. absurd (stopped-goes g) })
 
 through-alike : (ps : List (List ℕ)) (x y : State) → Alike x y → through x ps .run ≡ through y ps .run
 unfolding through stepped
 through-alike [] x y a = a .run
 through-alike (p ∷ ps) x y a =
     through-alike ps (cameAs (readAt p 0) x p) (cameAs (readAt p 0) y p)
-    (subst (λ (r : Run). Alike (cameAs (readAt p 0) x p) (cameAs (readAt p 0) (record { run = r; store = y .store }) p)) (a .run) (came-alike (x .run) (x .store) (y .store) (x .run .phase) refl (a .store) (readAt p 0) p))
+    (subst (λ (r : Run). Alike (cameAs (readAt p 0) x p) (cameAs (readAt p 0) (record { run = r; store = y .store }) p)) (a .run) (came-whatever (x .run) (x .store) (y .store) (x .run .phase) refl (a .store) (readAt p 0) p))
 
 pub any-store : AnyStore
 any-store s store =
@@ -58,15 +58,15 @@ any-store s store =
 
 -- ---- whole
 
-either : (b : Bool) (s t : List ℕ) → length s ≡ 2880 → length t ≡ 2880 → length (cond b s t) ≡ 2880
-either true s t h k = h
-either false s t h k = k
+whole-either-way : (b : Bool) (s t : List ℕ) → length s ≡ 2880 → length t ≡ 2880 → length (cond b s t) ≡ 2880
+whole-either-way true s t h k = h
+whole-either-way false s t h k = k
 
 framed-whole : (st : State) (got : ℕ) (f : List ℕ) → length (st .store) ≡ 2880 → length (framed st got f .store) ≡ 2880
 unfolding framed
 framed-whole st got f h =
-    either (eqb (entryOf (st .run .account) got f .refusal) 0) (cond (locks f 0) (receivedStore f (st .store)) (st .store)) (st .store)
-    (either (locks f 0) (receivedStore f (st .store)) (st .store) (store-length f (st .store)) h) h
+    whole-either-way (eqb (entryOf (st .run .account) got f .refusal) 0) (cond (locks f 0) (receivedStore f (st .store)) (st .store)) (st .store)
+    (whole-either-way (locks f 0) (receivedStore f (st .store)) (st .store) (store-length f (st .store)) h) h
 
 came-whole : (read : Read) (p : Phase) (st : State) (piece : List ℕ) → st .run .phase ≡ p → length (st .store) ≡ 2880 → length (cameAs read st piece .store) ≡ 2880
 unfolding cameAs orderCame frameCame halted framed

@@ -4,7 +4,7 @@
 use crate::lengths::wrong_lengths;
 use crate::out::Calls;
 use crate::verdicts::any;
-use second::account::{opened, Account, LATE, MOST_FRAMES, MOST_WORDS};
+use second::account::{account, opened, Account, LATE, MOST_FRAMES, MOST_WORDS};
 use second::word::FRAME_WORDS;
 use second::xorshift::Xorshift;
 use std::io::{self, Write};
@@ -38,19 +38,6 @@ pub const AHEAD: [u32; 13] = [
     u32::MAX - 1,
     u32::MAX,
 ];
-
-/// Accepted, missing and the tallies.
-pub fn account(expected: u32, [accepted, missing, clean, one, two, flagged]: [u64; 6]) -> Account {
-    Account {
-        expected,
-        accepted,
-        missing,
-        clean,
-        one,
-        two,
-        flagged,
-    }
-}
 
 /// Flags with so many words of each number, in any order.
 pub fn flags_of(random: &mut Xorshift, tallies: [u64; 4]) -> Vec<u8> {

@@ -1,7 +1,7 @@
 //! Makes each call by the second program's own code, and writes down what it was given, what it
 //! answered and what it left.
 
-use second::account::{enter_flags, lose, opened, verdict, Account};
+use second::account::{enter_flags, lose, numbers, opened, verdict, Account};
 use second::capture::{read, wanted, Record};
 use second::kept::Kept;
 use second::receive::receive;
@@ -83,17 +83,8 @@ impl<W: Write> Calls<W> {
     }
 
     fn account(&mut self, account: &Account) -> io::Result<()> {
-        let Account {
-            expected,
-            accepted,
-            missing,
-            clean,
-            one,
-            two,
-            flagged,
-        } = *account;
-        self.u32(expected)?;
-        for number in [accepted, missing, clean, one, two, flagged] {
+        self.u32(account.expected)?;
+        for number in numbers(*account) {
             self.u64(number)?;
         }
         Ok(())

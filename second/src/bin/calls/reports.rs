@@ -1,10 +1,10 @@
 //! Reports into texts of every length, and of numbers of every length.
 
-use crate::accounts::{account, odd_account};
+use crate::accounts::odd_account;
 use crate::out::Calls;
 use crate::runs::PHASES;
 use crate::verdicts::any;
-use second::account::{opened, Account};
+use second::account::{account, opened, Account};
 use second::kept::{Kept, GOING};
 use second::xorshift::Xorshift;
 use std::io::{self, Write};

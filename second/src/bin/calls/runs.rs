@@ -1,14 +1,16 @@
 //! Steps of runs: from every phase over every kind of record, with every store, at every limit, by
 //! every refusal, and long runs with their verdict and report after every step.
 
-use crate::accounts::{account, edges, odd_account, AHEAD, MOST, STARTS};
+use crate::accounts::{edges, odd_account, AHEAD, MOST, STARTS};
 use crate::frames::{damage_pilots, damage_words, flip_any, sent, Symbols};
 use crate::lengths::wrong_lengths;
 use crate::out::Calls;
 use crate::records::{order, unlawful};
 use crate::reports::ROOM;
 use crate::verdicts::any;
-use second::account::{count_flags, enter_flags, lose, Account, FAIL, LATE, NOT_MEASURED, PASS};
+use second::account::{
+    account, count_flags, enter_flags, lose, Account, FAIL, LATE, NOT_MEASURED, PASS,
+};
 use second::capture::{frame_record, read, FRAME, KIND_PLACE, VERSION_PLACE};
 use second::kept::{Kept, GOING, STOPPED, UNORDERED};
 use second::lanes::{LANES_BYTES, STORE_BYTES};

@@ -5,7 +5,7 @@
 //! of arbitrary numbers.
 
 use crate::out::Calls;
-use second::account::Account;
+use second::account::account;
 use second::kept::{Kept, GOING, STOPPED, UNORDERED};
 use second::xorshift::Xorshift;
 use std::io::{self, Write};
@@ -97,15 +97,10 @@ pub fn write<W: Write>(calls: &mut Calls<W>, random: &mut Xorshift) -> io::Resul
             phase,
             asked: order[0],
             allowed: order[1],
-            account: Account {
-                expected: any(random) as u32,
-                accepted,
-                missing,
-                clean,
-                one,
-                two,
-                flagged,
-            },
+            account: account(
+                any(random) as u32,
+                [accepted, missing, clean, one, two, flagged],
+            ),
         })?;
     }
     Ok(())
