@@ -8,5 +8,6 @@ pub mod receive;
 pub mod run;
 pub mod send;
 pub mod symbols;
+pub mod tables;
 pub mod word;
 pub mod xorshift;

@@ -3,7 +3,7 @@
 use mathlib.Core.Path.{_≡_, ap}
 use Prim.Native.Nat.{ℕ}
 use native.Mathlib.Omega.{arith}
-use Rattle.account.specs.Account.{opened, ahead, over, frameEntered}
+use Rattle.account.specs.definitions.Account.{opened, ahead, over, frameEntered}
 use Rattle.account.specs.declared.Entry.{Entry}
 
 -- frame 4 comes late to an account that expects 5

@@ -4,7 +4,7 @@ use mathlib.Core.Path.{_≡_, refl, sym, ap, _∙_}
 use mathlib.Core.Bool.{Bool, true, false}
 use Prim.Native.Nat.{ℕ, _+_}
 use lib.Dec.{eqb}
-use Rattle.account.specs.Account.{total, noWords, ahead, late, grown, over, withFrame, withLoss, frameEntered, lossEntered}
+use Rattle.account.specs.definitions.Account.{total, noWords, ahead, late, grown, over, withFrame, withLoss, frameEntered, lossEntered}
 use Rattle.account.specs.declared.Tallies.{Tallies}
 use Rattle.account.specs.declared.Account.{Account}
 

@@ -9,9 +9,10 @@ use native.Mathlib.Omega.{arith}
 use lib.Dec.{eqb}
 use lib.ListN.{getD}
 use borrow.Author.Tests.{eqb-true, ne-eqb}
-use Rattle.bits.specs.Bits.{count}
-use Rattle.account.specs.Account.{total, counted, ahead, late, over, withFrame, withLoss, frameEntered, lossEntered}
-use Rattle.account.specs.Kept.{Follows, accountAfter, KeptFromOrder, RefusedKeeps, Brings}
+use Rattle.bits.specs.definitions.Bits.{count}
+use Rattle.account.specs.definitions.Account.{total, counted, ahead, late, over, withFrame, withLoss, frameEntered, lossEntered}
+use Rattle.account.specs.definitions.Kept.{Follows, accountAfter}
+use Rattle.account.specs.statements.Kept.{KeptFromOrder, RefusedKeeps, Brings}
 use Rattle.account.specs.declared.Account.{Account}
 use Rattle.account.specs.declared.Tallies.{Tallies}
 

@@ -1,8 +1,8 @@
 pub mod Sums
 pub mod Limits
 pub mod Entered
-pub mod Taken
-pub mod Judged
+pub mod AcceptedEntry
+pub mod VerdictMeaning
 pub mod Kept
 pub mod Determined
 pub mod Empty

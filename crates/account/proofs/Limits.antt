@@ -5,7 +5,7 @@ use mathlib.Core.Bool.{Bool, true, false, _||_, false≢true}
 use Prim.Native.Nat.{_≤_}
 use lib.Dec.{ltb}
 use borrow.Author.Tests.{ltb-false, le-ltb}
-use Rattle.account.specs.Account.{frameLimit, tallyLimit, over}
+use Rattle.account.specs.definitions.Account.{frameLimit, tallyLimit, over}
 use Rattle.account.specs.declared.Account.{Account}
 
 neither : (x y : Bool) → (x || y) ≡ false → (x ≡ false) × (y ≡ false)

@@ -7,7 +7,7 @@ use native.Mathlib.Decide.{decLt, ℕ-discrete}
 use native.Mathlib.Omega.{arith}
 use lib.Dec.{eqb, ltb}
 use borrow.Author.Tests.{lt-ltb, le-ltb, eq-eqb, ne-eqb}
-use Rattle.account.specs.Account.{total}
+use Rattle.account.specs.definitions.Account.{total}
 use Rattle.account.specs.declared.Tallies.{Tallies}
 
 -- two tests that say the same

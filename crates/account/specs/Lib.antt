@@ -1,2 +1,2 @@
-pub mod Account
-pub mod Kept
+pub mod definitions
+pub mod statements

@@ -4,8 +4,8 @@ ghost use mathlib.Core.Bool.{false, cond};
 ghost use Prim.Native.Nat.{_+_, _^_, _<_, _≤_};
 ghost use lib.Dec.{eqb, ltb};
 ghost use lib.ListN.{length, getD};
-ghost use Rattle.bits.specs.Bits.{count};
-ghost use Rattle.account.specs.Account.{tallyLimit, talliesOf, ahead, late, opened, total, added, grown, over, frameEntered, lossEntered, measured, verdict, verdictNumber};
+ghost use Rattle.bits.specs.definitions.Bits.{count};
+ghost use Rattle.account.specs.definitions.Account.{tallyLimit, talliesOf, ahead, late, opened, total, added, grown, over, frameEntered, lossEntered, measured, verdict, verdictNumber};
 
 // How many words had 0, 1 or 2 bits mended, or were flagged.
 #[repr(C)]
@@ -43,6 +43,9 @@ const FRAME_LIMIT: u64 = 1000000;
 
 // The highest that any one tally may reach.
 const TALLY_LIMIT: u64 = 384000000;
+
+// Half the way round 2^32.
+const HALF: u32 = 1 << 31;
 
 // The words that a frame must bring.
 const DUE: u64 = 384;
@@ -118,7 +121,7 @@ fn ahead(got: u32, expected: u32) -> u32
 fn late(d: u32) -> bool
     ensures { λ r. ⌜ r ≡ late d ⌝ }
 {
-    d >= 2147483648
+    d >= HALF
 }
 
 // A refused entry: the account as it was.

@@ -6,17 +6,17 @@ use mathlib.Core.List.{List}
 use Prim.Native.Nat.{ℕ}
 use lib.ListN.{length}
 use borrow.Author.Tests.{eq-eqb, ne-eqb}
-use Rattle.bits.specs.Bits.{copied}
+use Rattle.bits.specs.definitions.Bits.{copied}
 use Rattle.bits.proofs.Filling.{copied-all}
 use Rattle.account.specs.declared.Account.{Account}
 use Rattle.account.specs.declared.Entry.{Entry}
 use Rattle.account.specs.declared.Tallies.{Tallies}
-use Rattle.account.specs.Account.{talliesOf, frameEntered}
+use Rattle.account.specs.definitions.Account.{talliesOf, frameEntered}
 use Rattle.bench.specs.declared.Run.{Run as Bench}
 use Rattle.bench.specs.declared.Stepped.{Stepped}
-use Rattle.bench.specs.Run.{State, stepped, stepRefusal}
-use Rattle.adderbloom.specs.Entry.{flagsEntered}
-use Rattle.adderbloom.specs.Run.{runOf, kept, stateOf, Steps}
+use Rattle.bench.specs.definitions.Run.{State, stepped, stepRefusal}
+use Rattle.adderbloom.specs.definitions.Entry.{flagsEntered}
+use Rattle.adderbloom.specs.definitions.Run.{runOf, keptRun, stateOf, Steps}
 use Rattle.adderbloom.specs.declared.runs.Run.{Run}
 
 -- ---- a frame by its flag bytes
@@ -38,12 +38,12 @@ module _ (r : Run) (s piece : List ℕ) where
   -- the store is copied over 2,880 other bytes, and what the step leaves of them is copied back
   pub step-done : length s ≡ 2880 → (own zeros : List ℕ) → own ≡ copied s zeros → length zeros ≡ 2880 → (b : Bench) → b ≡ runOf r
       → (a : Stepped) (own′ : List ℕ) → (record { run = a .run; store = own′ } ≡ stepped (record { run = b; store = own }) piece) × (a .refusal ≡ stepRefusal (record { run = b; store = own }) piece)
-      → length own′ ≡ 2880 → (r′ : Run) (s′ : List ℕ) → r′ ≡ kept (a .run) → s′ ≡ copied own′ s → Steps r s piece (a .refusal) r′ s′
+      → length own′ ≡ 2880 → (r′ : Run) (s′ : List ℕ) → r′ ≡ keptRun (a .run) → s′ ≡ copied own′ s → Steps r s piece (a .refusal) r′ s′
   step-done l own zeros c z b hb a own′ h l′ r′ s′ k d =
       let same : record { run = b; store = own } ≡ stateOf r s = rw (hb, c, copied-all s zeros (l ∙ sym z)) refl in
       let st : record { run = a .run; store = own′ } ≡ stepped (stateOf r s) piece = h .0 ∙ ap (λ (x : State). stepped x piece) same in
       record {
         number = rw (eq-eqb _ _ l) (h .1 ∙ ap (λ (x : State). stepRefusal x piece) same);
-        run = rw (eq-eqb _ _ l) (k ∙ ap (λ (x : State). kept (x .run)) st);
+        run = rw (eq-eqb _ _ l) (k ∙ ap (λ (x : State). keptRun (x .run)) st);
         store = rw (eq-eqb _ _ l) (d ∙ copied-all own′ s (l′ ∙ sym l) ∙ ap (λ (x : State). x .store) st);
       }

@@ -10,11 +10,11 @@ use ghost.Atoms.{Atoms}
 use contract.Monad.{Fun}
 use denote.Ref.{now}
 use Rattle.bits.proofs.Fixes.{Fixes, FixesSaid}
-use Rattle.account.specs.Account.{opened, lossEntered}
+use Rattle.account.specs.definitions.Account.{opened, lossEntered}
 use Rattle.account.specs.declared.Entry.{Entry}
-use Rattle.bench.specs.Run.{begun, stopped}
-use Rattle.adderbloom.specs.Entry.{flagsEntered}
-use Rattle.adderbloom.specs.Run.{runOf, kept, Steps}
+use Rattle.bench.specs.definitions.Run.{begun, stopped}
+use Rattle.adderbloom.specs.definitions.Entry.{flagsEntered}
+use Rattle.adderbloom.specs.definitions.Run.{runOf, keptRun, Steps}
 use Rattle.adderbloom.proofs.lr800_send.Kinds as send-kinds
 use Rattle.adderbloom.proofs.lr800_send.Reads as send-reads
 use Rattle.adderbloom.proofs.lr800_receive.Kinds as receive-kinds
@@ -82,10 +82,10 @@ module _ {M : Type 1} (𝓤 : URA M) (H : Heap 𝓤) (A : Atoms 𝓤) (mem : Mem
 
   -- the run at exit
   pub run-open-determined : FixesSaid 𝓤 run-open.ended (run-open.clauses 𝓤 H A mem run) (λ κs x y s t. (x ≡ y) × (now (s .0) ≡ now (t .0)))
-  run-open-determined κs a g = ((λ r s. now (s .0) ≡ kept begun), (λ x s. refl), (λ x y s t p q. (refl, p ∙ sym q)))
+  run-open-determined κs a g = ((λ r s. now (s .0) ≡ keptRun begun), (λ x s. refl), (λ x y s t p q. (refl, p ∙ sym q)))
 
   pub run-stop-determined : FixesSaid 𝓤 run-stop.ended (run-stop.clauses 𝓤 H A mem run) (λ κs x y s t. (x ≡ y) × (now (s .0) ≡ now (t .0)))
-  run-stop-determined κs a g = ((λ r s. now (s .0) ≡ kept (stopped (runOf (now (a .0))))), (λ x s. refl), (λ x y s t p q. (refl, p ∙ sym q)))
+  run-stop-determined κs a g = ((λ r s. now (s .0) ≡ keptRun (stopped (runOf (now (a .0))))), (λ x s. refl), (λ x y s t p q. (refl, p ∙ sym q)))
 
   -- the number, and the run and the store at exit
   pub run-step-determined : FixesSaid 𝓤 run-step.ended (run-step.clauses 𝓤 H A mem run) (λ κs x y s t. (x ≡ y) × (now (s .0) ≡ now (t .0)) × (now (s .1 .0) ≡ now (t .1 .0)))

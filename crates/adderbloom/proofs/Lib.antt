@@ -1,5 +1,4 @@
 pub mod Calls
-pub mod Lent
+pub mod ByReference
 pub mod Structs
-pub mod Host
 pub mod Determined

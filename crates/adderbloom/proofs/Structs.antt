@@ -2,7 +2,7 @@
 -- Assumes nothing.
 use mathlib.Core.Path.{refl}
 use denote.Struct.Laws as LL
-use Rattle.adderbloom.proofs.Lent.{Struct, Answer}
+use Rattle.adderbloom.proofs.ByReference.{Struct, Answer}
 use Rattle.account.proofs.Account as A
 use Rattle.account.proofs.Account.Laws as A′
 use Rattle.account.proofs.Entry as E

@@ -1,4 +1,1 @@
-pub mod Entry
-pub mod Record
-pub mod Run
-pub mod Host
+pub mod definitions

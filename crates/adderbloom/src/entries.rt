@@ -1,7 +1,7 @@
 // The account lent by a host, and its entries in place. A refused entry leaves it as it was.
 ghost use mathlib.Core.Path.{_≡_};
-ghost use Rattle.account.specs.Account.{opened, lossEntered};
-ghost use Rattle.adderbloom.specs.Entry.{flagsEntered};
+ghost use Rattle.account.specs.definitions.Account.{opened, lossEntered};
+ghost use Rattle.adderbloom.specs.definitions.Entry.{flagsEntered};
 
 // The account of a new order, from this number on.
 #[no_mangle]

@@ -3,13 +3,13 @@ mod entries;
 mod records;
 mod runs;
 
-ghost use Rattle.framing.specs.Call.{base};
-ghost use Rattle.framing.specs.Send.{Sends};
-ghost use Rattle.framing.specs.Receive.{Receives};
+ghost use Rattle.framing.specs.definitions.Call.{base};
+ghost use Rattle.framing.specs.definitions.Send.{Sends};
+ghost use Rattle.framing.specs.definitions.Receive.{Receives};
 ghost use mathlib.Core.Path.{_≡_};
 ghost use mathlib.Core.Bool.{not};
 ghost use lib.Dec.{eqb};
-ghost use Rattle.account.specs.Account.{verdict, verdictNumber};
+ghost use Rattle.account.specs.definitions.Account.{verdict, verdictNumber};
 
 // A frame sent: 5,280 bytes of lanes in, 6,144 symbols out, 2,880 bytes of store kept. Refusals 1, 2, 3 change nothing.
 #[no_mangle]

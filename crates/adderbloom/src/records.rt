@@ -1,7 +1,7 @@
 // What stands at a place of a capture, as numbers.
 ghost use mathlib.Core.Path.{_≡_};
-ghost use Rattle.capture.specs.Capture.{readAt, wanted};
-ghost use Rattle.adderbloom.specs.Record.{recordOf};
+ghost use Rattle.capture.specs.definitions.Capture.{readAt, wanted};
+ghost use Rattle.adderbloom.specs.definitions.Record.{recordOf};
 
 // A record read: a refusal's number or 0, its kind, its figures, where its symbols lie, and the next place.
 #[repr(C)]

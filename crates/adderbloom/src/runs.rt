@@ -1,11 +1,11 @@
 // A whole run lent by a host: a capture record by record, the verdict and the report.
 ghost use mathlib.Core.Path.{_≡_};
 ghost use lib.ListN.{length};
-ghost use Rattle.bits.specs.Bits.{copied};
-ghost use Rattle.account.specs.Account.{verdictNumber};
-ghost use Rattle.bench.specs.Run.{begun, stopped, verdictOf};
-ghost use Rattle.bench.specs.Report.{written, writtenBytes};
-ghost use Rattle.adderbloom.specs.Run.{phaseNumber, phaseOf, runOf, kept, Steps};
+ghost use Rattle.bits.specs.definitions.Bits.{copied};
+ghost use Rattle.account.specs.definitions.Account.{verdictNumber};
+ghost use Rattle.bench.specs.definitions.Run.{begun, stopped, verdictOf};
+ghost use Rattle.report.specs.definitions.Report.{written, writtenBytes};
+ghost use Rattle.adderbloom.specs.definitions.Run.{phaseNumber, phaseOf, runOf, keptRun, Steps};
 
 // A run as a host keeps it: the phase by its number, the order's figures and the account.
 #[repr(C)]
@@ -61,8 +61,8 @@ fn run_of(r: Run) -> bench::Run
 }
 
 // A run as a host keeps it.
-fn kept(b: bench::Run) -> Run
-    ensures { λ r. ⌜ r ≡ kept b ⌝ }
+fn kept_run(b: bench::Run) -> Run
+    ensures { λ r. ⌜ r ≡ keptRun b ⌝ }
 {
     let a = b.account;
     let p = b.phase;
@@ -77,16 +77,16 @@ fn kept(b: bench::Run) -> Run
 
 // The run before its first record.
 fn opened() -> Run
-    ensures { λ r. ⌜ r ≡ kept begun ⌝ }
+    ensures { λ r. ⌜ r ≡ keptRun begun ⌝ }
 {
-    kept(bench::begun())
+    kept_run(bench::begun())
 }
 
 // The run stopped.
 fn stopped(r: Run) -> Run
-    ensures { λ s. ⌜ s ≡ kept (stopped (runOf r)) ⌝ }
+    ensures { λ s. ⌜ s ≡ keptRun (stopped (runOf r)) ⌝ }
 {
-    kept(bench::stopped(run_of(r)))
+    kept_run(bench::stopped(run_of(r)))
 }
 
 // A store over a lent one.
@@ -108,7 +108,7 @@ fn stepped(r: Run, store: &mut [u8], piece: &[u8]) -> Answer
     let s = bench::step(run_of(r), &mut own, piece);
     put_store(&own, store);
     let b = s.run;
-    let after = kept(b);
+    let after = kept_run(b);
     Answer {
         refusal: s.refusal,
         run: after,
@@ -118,7 +118,7 @@ fn stepped(r: Run, store: &mut [u8], piece: &[u8]) -> Answer
 // A run before its first record, in place of the one lent.
 #[no_mangle]
 pub extern "C" fn lr800_run_open(r: &mut Run)
-    ensures { λ _. ⌜ now (r .exit) ≡ kept begun ⌝ }
+    ensures { λ _. ⌜ now (r .exit) ≡ keptRun begun ⌝ }
 {
     *r = opened();
 }
@@ -137,7 +137,7 @@ pub extern "C" fn lr800_run_step(r: &mut Run, store: &mut [u8], piece: &[u8]) ->
 // The run stopped, as by a read that failed: its figures and its account stay.
 #[no_mangle]
 pub extern "C" fn lr800_run_stop(r: &mut Run)
-    ensures { λ _. ⌜ now (r .exit) ≡ kept (stopped (runOf (now (r .entry)))) ⌝ }
+    ensures { λ _. ⌜ now (r .exit) ≡ keptRun (stopped (runOf (now (r .entry)))) ⌝ }
 {
     *r = stopped(*r);
 }
@@ -155,5 +155,5 @@ pub extern "C" fn lr800_run_verdict(r: Run) -> u32
 pub extern "C" fn lr800_run_report(r: Run, text: &mut [u8]) -> usize
     ensures { λ n. ⌜ (n ≡ writtenBytes (runOf r) (now (text .entry))) × (now (text .exit) ≡ written (runOf r) (now (text .entry))) ⌝ }
 {
-    bench::report(run_of(r), text)
+    report::report(run_of(r), text)
 }

@@ -5,29 +5,13 @@ use denote.Ref.{now}
 use Rattle.bits.proofs.Fixes.{Fixes}
 use Rattle.bch.proofs.parity.Kinds as parity-kinds
 use Rattle.bch.proofs.parity.Reads as parity-reads
-use Rattle.bch.proofs.decode.Kinds as decode-kinds
-use Rattle.bch.proofs.decode.Reads as decode-reads
-use Rattle.bch.proofs.flag.Kinds as flag-kinds
-use Rattle.bch.proofs.flag.Reads as flag-reads
 use Rattle.bch.proofs.encode_frame.Kinds as encode-kinds
 use Rattle.bch.proofs.encode_frame.Reads as encode-reads
-use Rattle.bch.proofs.decode_frame.Kinds as frame-kinds
-use Rattle.bch.proofs.decode_frame.Reads as frame-reads
 
--- a number or a struct, and no buffer
+-- a number, and no buffer
 pub parity-determined : Fixes 0 parity-kinds.ps parity-kinds.r parity-reads.Post (λ κs s t. Unit)
 parity-determined κs a x y s t p q = (p ∙ sym q, tt)
-
-pub decode-determined : Fixes 0 decode-kinds.ps decode-kinds.r decode-reads.Post (λ κs s t. Unit)
-decode-determined κs a x y s t p q = (p ∙ sym q, tt)
-
-pub flag-determined : Fixes 0 flag-kinds.ps flag-kinds.r flag-reads.Post (λ κs s t. Unit)
-flag-determined κs a x y s t p q = (p ∙ sym q, tt)
 
 -- no result, and the words at exit
 pub encode-frame-determined : Fixes 1 encode-kinds.ps encode-kinds.r encode-reads.Post (λ κs s t. now (s .0) ≡ now (t .0))
 encode-frame-determined κs a x y s t p q = (refl, p ∙ sym q)
-
--- no result, and the words and the flags at exit
-pub decode-frame-determined : Fixes 2 frame-kinds.ps frame-kinds.r frame-reads.Post (λ κs s t. (now (s .0) ≡ now (t .0)) × (now (s .1 .0) ≡ now (t .1 .0)))
-decode-frame-determined κs a x y s t p q = (refl, (p .0 ∙ sym (q .0), p .1 ∙ sym (q .1)))

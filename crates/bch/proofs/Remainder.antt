@@ -11,7 +11,7 @@ use lib.Dec.{lit<, lit≤}
 use lib.Pow.{field, mod-mod-pow, pow-pos, pow-mono, pow-lt}
 use lib.Bits.{bitXor, xor-self, xor-zero-r, xor-lt, xor-block, xor-shr, xor-mod, block-half, block-odd}
 use Rattle.bits.proofs.Xor.{bit-cases, xor-half, xor-four, xor-double}
-use Rattle.bch.specs.Code.{generator, multiple, CodeWord, stepOf, feedOf, remainder}
+use Rattle.bch.specs.definitions.Code.{generator, multiple, CodeWord, stepOf, feedOf, remainder}
 
 -- ---- linear
 

@@ -1,5 +1,2 @@
-pub mod Code
-pub mod Mend
-pub mod Word
-pub mod Demands
-pub mod Tables
+pub mod definitions
+pub mod statements

@@ -3,7 +3,7 @@
 use mathlib.Core.Path.{_≡_, sym, ap, _∙_}
 use denote.Ref.{now}
 use Rattle.bits.proofs.Fixes.{Fixes}
-use Rattle.bench.specs.Run.{State}
+use Rattle.bench.specs.definitions.Run.{State}
 use Rattle.bench.proofs.step.Kinds as step-kinds
 use Rattle.bench.proofs.step.Reads as step-reads
 use Rattle.bench.proofs.stopped.Kinds as stopped-kinds
@@ -16,8 +16,6 @@ use Rattle.bench.proofs.begun.Kinds as begun-kinds
 use Rattle.bench.proofs.begun.Reads as begun-reads
 use Rattle.bench.proofs.verdict_of.Kinds as verdict-of-kinds
 use Rattle.bench.proofs.verdict_of.Reads as verdict-of-reads
-use Rattle.bench.proofs.text.report.Kinds as report-kinds
-use Rattle.bench.proofs.text.report.Reads as report-reads
 
 -- the number, the run, and the store at exit
 pub step-determined : Fixes 2 step-kinds.ps step-kinds.r step-reads.Post (λ κs s t. now (s .1 .0) ≡ now (t .1 .0))
@@ -39,7 +37,3 @@ examine-capture-determined κs a x y s t p q = (p ∙ sym q, tt)
 
 pub verdict-of-determined : Fixes 0 verdict-of-kinds.ps verdict-of-kinds.r verdict-of-reads.Post (λ κs s t. Unit)
 verdict-of-determined κs a x y s t p q = (p ∙ sym q, tt)
-
--- the number of bytes, and the buffer at exit
-pub report-determined : Fixes 1 report-kinds.ps report-kinds.r report-reads.Post (λ κs s t. now (s .1 .0) ≡ now (t .1 .0))
-report-determined κs a x y s t p q = (p .0 ∙ sym (q .0), p .1 ∙ sym (q .1))

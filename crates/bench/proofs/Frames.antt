@@ -8,16 +8,16 @@ use native.Mathlib.Omega.{arith}
 use lib.Dec.{eqb}
 use lib.ListN.{length}
 use borrow.Author.Tests.{ne-eqb}
-use Rattle.symbols.specs.Pilots.{locks}
-use Rattle.framing.specs.Call.{base}
-use Rattle.framing.specs.Receive.{receivedStore, receivedFlags, Receives}
+use Rattle.pilots.specs.definitions.Pilots.{locks}
+use Rattle.framing.specs.definitions.Call.{base}
+use Rattle.framing.specs.definitions.Receive.{receivedStore, receivedFlags, Receives}
 use Rattle.framing.proofs.Receiving.{all-lengths, done}
 use Rattle.account.specs.declared.Entry.{Entry}
 use Rattle.account.specs.declared.Tallies.{Tallies}
-use Rattle.account.specs.Account.{talliesOf, frameEntered, lossEntered}
+use Rattle.account.specs.definitions.Account.{talliesOf, frameEntered, lossEntered}
 use Rattle.bench.specs.declared.Run.{Run}
 use Rattle.bench.specs.declared.Stepped.{Stepped}
-use Rattle.bench.specs.Run.{going, afterEntry, framed, entryOf}
+use Rattle.bench.specs.definitions.Run.{going, afterEntry, framed, entryOf}
 
 -- lock by the number answered
 locked : (l : Bool) (r : ℕ) → r ≡ cond l 0 5 → r ≡ 0 → l ≡ true

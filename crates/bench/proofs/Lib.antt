@@ -3,9 +3,5 @@ pub mod Steps
 pub mod Walk
 pub mod Stops
 pub mod Stores
-pub mod Left
-pub mod Decimal
-pub mod Writing
-pub mod Lengths
+pub mod Remaining
 pub mod Determined
-pub mod Examples

@@ -7,15 +7,15 @@ use Prim.Native.Nat.{ℕ, _≤_, min}
 use native.Mathlib.Omega.{arith}
 use lib.ListN.{length, drop, replicate, length-take, length-drop}
 use Rattle.account.specs.declared.Account.{Account}
-use Rattle.account.specs.Account.{opened}
+use Rattle.account.specs.definitions.Account.{opened}
 use Rattle.bench.specs.declared.Run.{Run}
 use Rattle.bench.specs.declared.Phase.{Phase}
 use Rattle.bench.specs.declared.Phase.the-variants.{Unordered, Going, Stopped}
 use Rattle.bench.specs.declared.Stepped.{Stepped}
-use Rattle.bench.specs.Run.{State, stopped, isStopped, framed, entryOf, orderCame, frameCame, frameRefusal, halted, cameAs, refusalOf, stepped, stepRefusal}
+use Rattle.bench.specs.definitions.Run.{State, stopped, isStopped, framed, entryOf, orderCame, frameCame, frameRefusal, halted, cameAs, refusalOf, stepped, stepRefusal}
 use Rattle.capture.specs.declared.Read.{Read}
 use Rattle.capture.specs.declared.Read.the-variants.{End, Refused, Order, Frame}
-use Rattle.capture.specs.Capture.{readAt, symbolsAt}
+use Rattle.capture.specs.definitions.Capture.{readAt, symbolsAt}
 use Rattle.capture.proofs.Cases.{symbols-are}
 use Rattle.capture.proofs.Found.{Stands, stands}
 

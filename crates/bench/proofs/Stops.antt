@@ -11,12 +11,13 @@ use borrow.Author.Tests.{ne-eqb}
 use Rattle.account.specs.declared.Entry.{Entry}
 use Rattle.capture.specs.declared.Read.{Read}
 use Rattle.capture.specs.declared.Read.the-variants.{End, Refused, Order, Frame}
-use Rattle.capture.specs.Capture.{readAt, symbolsAt}
+use Rattle.capture.specs.definitions.Capture.{readAt, symbolsAt}
 use Rattle.capture.proofs.Found.{Stands, stands}
 use Rattle.bench.specs.declared.Phase.{Phase}
 use Rattle.bench.specs.declared.Phase.the-variants.{Unordered, Going, Stopped}
 use Rattle.bench.proofs.Walk.{came-stays}
-use Rattle.bench.specs.Run.{State, stopped, isStopped, afterEntry, noted, entryOf, framed, orderCame, frameCame, frameRefusal, halted, cameAs, refusalOf, stepped, stepRefusal, unnumbered, StopsExactly, OnlyStops, StoppedStays}
+use Rattle.bench.specs.definitions.Run.{State, stopped, isStopped, afterEntry, noted, entryOf, framed, orderCame, frameCame, frameRefusal, halted, cameAs, refusalOf, stepped, stepRefusal, unnumbered}
+use Rattle.bench.specs.statements.Run.{StopsExactly, OnlyStops, StoppedStays}
 
 noted-refused : (st : State) (e : Entry) (s : List ℕ) → e .refusal ≢ 0 → noted st e s ≡ record { run = stopped (st .run); store = st .store }
 noted-refused st e s n = rw (ne-eqb (e .refusal) 0 n) refl

@@ -6,17 +6,18 @@ use mathlib.Core.List.{List, [], _∷_}
 use Prim.Native.Nat.{ℕ}
 use lib.Dec.{eqb}
 use lib.ListN.{length, length-replicate}
-use Rattle.framing.specs.Receive.{receivedStore}
+use Rattle.framing.specs.definitions.Receive.{receivedStore}
 use Rattle.framing.proofs.Receiving.{store-length}
-use Rattle.symbols.specs.Pilots.{locks}
+use Rattle.pilots.specs.definitions.Pilots.{locks}
 use Rattle.capture.specs.declared.Read.{Read}
 use Rattle.capture.specs.declared.Read.the-variants.{End, Refused, Order, Frame}
-use Rattle.capture.specs.Capture.{readAt, symbolsAt}
+use Rattle.capture.specs.definitions.Capture.{readAt, symbolsAt}
 use Rattle.bench.specs.declared.Run.{Run}
 use Rattle.bench.specs.declared.Phase.{Phase}
 use Rattle.bench.specs.declared.Phase.the-variants.{Unordered, Going, Stopped}
-use Rattle.bench.specs.Run.{State, begun, fresh, entryOf, framed, orderCame, frameCame, halted, cameAs, stepped, goesOn}
-use Rattle.bench.specs.Walk.{pieces, through, AnyStore, StoreStays}
+use Rattle.bench.specs.definitions.Run.{State, begun, fresh, entryOf, framed, orderCame, frameCame, halted, cameAs, stepped, goesOn}
+use Rattle.bench.specs.definitions.Walk.{pieces, through}
+use Rattle.bench.specs.statements.Walk.{AnyStore, StoreStays}
 use Rattle.bench.proofs.Walk.{came-stays, pieces-alike}
 
 -- two states of one run, with the same store where it goes on

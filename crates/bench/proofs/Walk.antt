@@ -13,15 +13,16 @@ use lib.Seq.{drop-drop, take-all, take-append-seam, drop-append-seam}
 use borrow.Author.Tests.{eq-eqb, ne-eqb}
 use Rattle.capture.specs.declared.Read.{Read}
 use Rattle.capture.specs.declared.Read.the-variants.{End, Refused, Order, Frame}
-use Rattle.capture.specs.Capture.{readAt, nextOf, shifted, symbolsAt, wanted}
+use Rattle.capture.specs.definitions.Capture.{readAt, nextOf, shifted, symbolsAt, wanted}
 use Rattle.capture.proofs.Found.{Stands, stands, order-found, frame-found}
 use Rattle.capture.proofs.Cases.{at-end}
 use Rattle.capture.proofs.Local.{reads-from-here, symbols-here, wanted-reads, wanted-bounds, wanted-alike}
 use Rattle.bench.specs.declared.Run.{Run}
 use Rattle.bench.specs.declared.Phase.{Phase}
 use Rattle.bench.specs.declared.Phase.the-variants.{Unordered, Going, Stopped}
-use Rattle.bench.specs.Run.{State, begun, fresh, orderCame, frameCame, halted, cameAs, stepped}
-use Rattle.bench.specs.Walk.{walked, examined, cut, pieces, through, PiecesAlike}
+use Rattle.bench.specs.definitions.Run.{State, begun, fresh, orderCame, frameCame, halted, cameAs, stepped}
+use Rattle.bench.specs.definitions.Walk.{walked, examined, cut, pieces, through}
+use Rattle.bench.specs.statements.Walk.{PiecesAlike}
 
 -- ---- a stopped run stays as it is
 

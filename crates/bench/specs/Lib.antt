@@ -1,5 +1,2 @@
-pub mod Run
-pub mod Walk
-pub mod Report
-pub mod Writing
-pub mod Examples
+pub mod definitions
+pub mod statements

@@ -1,13 +1,9 @@
-// The run of a capture, record by record, and its report.
-mod text;
-
-pub use text::LONGEST;
-pub use text::report;
+// The run of a capture, record by record.
 ghost use mathlib.Core.Path.{_≡_};
 ghost use mathlib.Core.Bool.{cond};
 ghost use lib.ListN.{length};
-ghost use Rattle.bench.specs.Run.{begun, going, stopped, afterEntry, isStopped, framed, entryOf, orderCame, frameCame, frameRefusal, halted, stepped, stepRefusal, goesOn, verdictOf};
-ghost use Rattle.bench.specs.Walk.{examined};
+ghost use Rattle.bench.specs.definitions.Run.{begun, going, stopped, afterEntry, isStopped, framed, entryOf, orderCame, frameCame, frameRefusal, halted, stepped, stepRefusal, goesOn, verdictOf};
+ghost use Rattle.bench.specs.definitions.Walk.{examined};
 
 // No order yet; going on; stopped by a refusal, a second order, a frame before any order or a read that failed.
 pub enum Phase {

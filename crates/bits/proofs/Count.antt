@@ -8,9 +8,9 @@ use native.Mathlib.Nat.{le-refl, add-zero, add-suc, not-suc-le-zero}
 use native.Mathlib.Omega.{arith}
 use lib.Dec.{eqb}
 use borrow.Author.Tests.{eq-eqb, ne-eqb}
-use Rattle.bits.specs.Bits.{count}
+use Rattle.bits.specs.definitions.Bits.{count}
 
--- it hangs on the first n answers alone
+-- it depends on the first n answers alone
 pub count-cong : (n : ℕ) (p q : ℕ → Bool) → ((i : ℕ) → i < n → p i ≡ q i) → count p n ≡ count q n
 unfolding count
 count-cong zero p q h = refl

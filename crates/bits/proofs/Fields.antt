@@ -9,7 +9,7 @@ use native.Mathlib.Numerals.{add-one}
 use native.Mathlib.Omega.{arith}
 use lib.ListN.{length, getD, List·getD-eq-default}
 use lib.Pow.{pow-mono}
-use Rattle.bits.specs.Bits.{value, number, bitOf, bitAt, fieldAt, bytes, AllBytes}
+use Rattle.bits.specs.definitions.Bits.{value, number, bitOf, bitAt, fieldAt, bytes, AllBytes}
 use Rattle.bits.proofs.Tabulate.{length-tabulate, getD-tabulate, tabulate-cong, is-tabulate}
 use Rattle.bits.proofs.Value.{value-cong, value-lt, value-append, value-top, value-low, bit-lt, bit-number, number-bits}
 
@@ -125,8 +125,8 @@ module _ {s : List ℕ} {o n : ℕ} where
   unfolding fieldAt value
   reading-start B = record { upto = zero-le; bytes = B; is = refl }
 
-  pub reading-turn : {j v w : ℕ} → Reading s o n j v → j < n → w ≡ getD s (o + j) 0 → Reading s o n (j + 1) (v * 256 + w)
-  reading-turn {j} {v} {w} R h e =
+  pub reading-step : {j v w : ℕ} → Reading s o n j v → j < n → w ≡ getD s (o + j) 0 → Reading s o n (j + 1) (v * 256 + w)
+  reading-step {j} {v} {w} R h e =
       record {
         upto = omega arith;
         bytes = R .bytes;

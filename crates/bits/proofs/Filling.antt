@@ -1,5 +1,5 @@
--- A loop that fills a buffer from the front: `while i < n { out[i] = v; i += 1 }`. `Filling` is its invariant; `filling-start`, `filling-turn` and
--- `filling-done` answer where the loop begins, after a turn and at the end; `filling-put` a turn that lends a part to a callee. The measure is n - i.
+-- A loop that fills a buffer from the front: `while i < n { out[i] = v; i += 1 }`. `Filling` is its invariant; `filling-start`, `filling-step` and
+-- `filling-done` answer where the loop begins, after a step and at the end; `filling-put` a step that lends a part to a callee. The measure is n - i.
 -- Assumes nothing.
 use mathlib.Core.Path.{_≡_, refl, sym, ap, ap₂, _∙_, subst}
 use mathlib.Core.Logic.{_⊎_, inl, inr}
@@ -10,7 +10,7 @@ use native.Mathlib.Numerals.{add-one}
 use native.Mathlib.Omega.{arith}
 use lib.ListN.{length, getD, set, drop, take, length-append, length-take, length-drop, length-set, drop-of-length-le}
 use lib.Seq.{length-take-le, getD-take, take-all, take-length, drop-length, take-at, drop-append-add, drop-drop, getD-append-add, getD-drop}
-use Rattle.bits.specs.Bits.{tabulate, copied}
+use Rattle.bits.specs.definitions.Bits.{tabulate, copied}
 use Rattle.bits.proofs.Tabulate.{length-tabulate, tabulate-cong, tabulate-append, is-tabulate}
 
 -- out holds the first i elements of the table of f, and then what out₀ had; both are n long
@@ -40,8 +40,8 @@ module _ {A : Type 0} (f : ℕ → A) {n : ℕ} {out₀ : List A} where
       ∙ getD-append-add (tabulate i f) (drop i out₀) (k - i) d
       ∙ getD-drop i out₀ (k - i) d ∙ ap (λ (m : ℕ). getD out₀ m d) e
 
-  pub filling-turn : {out : List A} {i : ℕ} (v : A) → Filling f n out₀ out i → i < n → v ≡ f i → Filling f n out₀ (set out i v) (i + 1)
-  filling-turn {out} {i} v F h e =
+  pub filling-step : {out : List A} {i : ℕ} (v : A) → Filling f n out₀ out i → i < n → v ≡ f i → Filling f n out₀ (set out i v) (i + 1)
+  filling-step {out} {i} v F h e =
       record {
         upto = omega arith;
         long₀ = F .long₀;
@@ -51,9 +51,9 @@ module _ {A : Type 0} (f : ℕ → A) {n : ℕ} {out₀ : List A} where
             ∙ ap (λ (k : ℕ). tabulate k f ++ drop k out₀) (sym (add-one i));
       }
 
-  -- the same where the code's index is j, for a turn that stores more than once
+  -- the same where the code's index is j, for a step that stores more than once
   pub filling-at : {out : List A} {i : ℕ} (j : ℕ) (v : A) → j ≡ i → Filling f n out₀ out i → j < n → v ≡ f j → Filling f n out₀ (set out j v) (j + 1)
-  filling-at {out} {i} j v q F h e = filling-turn v (subst (Filling f n out₀ out) (sym q) F) h e
+  filling-at {out} {i} j v q F h e = filling-step v (subst (Filling f n out₀ out) (sym q) F) h e
 
   pub filling-done : {out : List A} {i : ℕ} → Filling f n out₀ out i → n ≤ i → out ≡ tabulate n f
   filling-done {out} {i} F h =

@@ -12,7 +12,7 @@ use lib.Pow.{pow-add, pow-pos, pow-mono, shr-lt, shl-exact}
 use lib.Bits.{bitAnd, bitOr, and-mask, or-shifted}
 use lib.ListN.{length, getD, set, length-set}
 use lib.Seq.{getD-set-same, getD-set-other}
-use Rattle.bits.specs.Bits.{fieldAt, AllBytes}
+use Rattle.bits.specs.definitions.Bits.{fieldAt, AllBytes}
 use Rattle.bits.proofs.Value.{value-cong, value-digits}
 use Rattle.bits.proofs.Fields.{bytes-field}
 
@@ -76,9 +76,9 @@ module _ {n v o : ℕ} {d : List ℕ} where
         digit = λ i l. absurd (not-suc-le-zero l);
       }
 
-  pub putting-turn : {l : List ℕ} {j x : ℕ} → Putting n v o d l j → j < n → x ≡ v / 2 ^ (8 * (n - (j + 1))) % 256
+  pub putting-step : {l : List ℕ} {j x : ℕ} → Putting n v o d l j → j < n → x ≡ v / 2 ^ (8 * (n - (j + 1))) % 256
       → Putting n v o d (set l (o + j) x) (j + 1)
-  putting-turn {l} {j} {x} P h e =
+  putting-step {l} {j} {x} P h e =
       record {
         upto = omega arith;
         fits = P .fits;

@@ -7,6 +7,7 @@ pub mod First
 pub mod Value
 pub mod Fields
 pub mod Joins
+pub mod Cases
 pub mod Count
 pub mod Weight
 pub mod Fixes

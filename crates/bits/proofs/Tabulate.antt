@@ -7,7 +7,7 @@ use native.Mathlib.Nat.{not-suc-le-zero, le-of-suc-le-suc, zero-add, suc-add}
 use native.Mathlib.Omega.{arith}
 use lib.ListN.{length, getD}
 use lib.Seq.{ext-getD}
-use Rattle.bits.specs.Bits.{tabulate}
+use Rattle.bits.specs.definitions.Bits.{tabulate}
 
 module _ {A : Type 0} where
   pub length-tabulate : (n : ℕ) (f : ℕ → A) → length (tabulate n f) ≡ n
@@ -21,7 +21,7 @@ module _ {A : Type 0} where
   getD-tabulate (suc n) f zero d h = refl
   getD-tabulate (suc n) f (suc i) d h = getD-tabulate n (λ k. f (suc k)) i d (le-of-suc-le-suc h)
 
-  -- it hangs on the first n values alone
+  -- it depends on the first n values alone
   pub tabulate-cong : (n : ℕ) (f g : ℕ → A) → ((i : ℕ) → i < n → f i ≡ g i) → tabulate n f ≡ tabulate n g
   unfolding tabulate
   tabulate-cong zero f g h = refl

@@ -7,7 +7,7 @@ use native.Mathlib.Numerals.{add-one}
 use native.Mathlib.Omega.{arith}
 use lib.Arith.{digits-lt, digits-div, digits-mod}
 use lib.Bits.{bitAnd, bitXor, differ, and-shr, and-mod, xor-shr}
-use Rattle.bits.specs.Bits.{value, number, bitOf}
+use Rattle.bits.specs.definitions.Bits.{value, number, bitOf}
 use Rattle.bits.proofs.Xor.{xor-odd}
 
 module _ (b : ℕ) where
@@ -16,7 +16,7 @@ module _ (b : ℕ) where
   unfolding value
   value-more n f = rw add-one
 
-  -- it hangs on the first n digits alone
+  -- it depends on the first n digits alone
   pub value-cong : (n : ℕ) (f g : ℕ → ℕ) → ((i : ℕ) → i < n → f i ≡ g i) → value b n f ≡ value b n g
   unfolding value
   value-cong zero f g h = refl

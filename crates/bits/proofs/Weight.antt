@@ -11,7 +11,7 @@ use lib.Arith.{lt-one, digits-div, digits-mod}
 use lib.Dec.{eqb, lit<}
 use lib.Pow.{pow-lt}
 use lib.Bits.{bitXor, differ, xor-shifted, xor-comm}
-use Rattle.bits.specs.Bits.{bitOf, count}
+use Rattle.bits.specs.definitions.Bits.{bitOf, count}
 use Rattle.bits.proofs.Xor.{bit-cases, xor-half, xor-odd, xor-double}
 use Rattle.bits.proofs.Count.{count-cong}
 

@@ -1,17 +1,18 @@
 -- Rows of words, two numbers a word: a row's words, and a loop over a row, whose invariant is `Filling` at 2 i numbers.
 -- Assumes nothing.
 use mathlib.Core.Path.{_≡_, sym, ap, ap₂, _∙_, subst}
+use mathlib.Core.Bool.{cond}
 use mathlib.Core.List.{List}
 use Prim.Native.Nat.{ℕ, _+_, _*_, _/_, _%_, _^_, _<_}
 use native.Mathlib.Nat.{mod-lt, mod-eq-of-lt, div-add-mod'}
 use native.Mathlib.Omega.{arith}
-use lib.ListN.{getD, set}
+use lib.ListN.{length, getD, set}
 use lib.Arith.{digits-lt}
-use lib.Dec.{lit<}
+use lib.Dec.{eqb, lit<}
 use lib.Pow.{shr-lt}
-use Rattle.bits.specs.Words.{wordOf, wordAt, halfOf, rowOf}
-use Rattle.bits.proofs.Tabulate.{getD-tabulate}
-use Rattle.bits.proofs.Filling.{Filling, filling-turn, filling-rest}
+use Rattle.bits.specs.definitions.Words.{wordOf, wordAt, halfOf, rowOf}
+use Rattle.bits.proofs.Tabulate.{getD-tabulate, length-tabulate, tabulate-cong}
+use Rattle.bits.proofs.Filling.{Filling, filling-step, filling-rest}
 
 half-upper : (f : ℕ → ℕ) (i : ℕ) → f i / 2 ^ 64 ≡ halfOf f (2 * i)
 unfolding halfOf
@@ -44,15 +45,26 @@ row-at n f i h l =
     (getD-tabulate (2 * n) (halfOf f) (2 * i + 1) 0 (omega arith) ∙ sym (half-lower f i))
     ∙ word-join (f i) l
 
+-- rows of the same words are the same
+pub row-cong : (n : ℕ) (f g : ℕ → ℕ) → ((i : ℕ) → i < n → f i ≡ g i) → rowOf n f ≡ rowOf n g
+unfolding halfOf
+row-cong n f g h =
+    tabulate-cong (2 * n) (halfOf f) (halfOf g)
+    (λ j l. ap (λ (v : ℕ). cond (eqb (j % 2) 0) (v / 2 ^ 64) (v % 2 ^ 64)) (h (j / 2) (omega arith)))
+
+-- and two numbers a word
+pub row-long : (n : ℕ) (f : ℕ → ℕ) → length (rowOf n f) ≡ 2 * n
+row-long n f = length-tabulate (2 * n) (halfOf f)
+
 module _ (f : ℕ → ℕ) {l : ℕ} {s₀ s : List ℕ} (i : ℕ) (F : Filling (halfOf f) l s₀ s (2 * i)) where
   -- a word that is not reached yet
   pub row-word : wordOf (getD s (2 * i) 0) (getD s (2 * i + 1) 0) ≡ wordAt s₀ i
   unfolding wordAt
   row-word = ap₂ wordOf (filling-rest (halfOf f) (2 * i) 0 F (omega arith)) (filling-rest (halfOf f) (2 * i + 1) 0 F (omega arith))
 
-  -- a turn that stores word i
-  pub row-turn : (x y : ℕ) → 2 * i + 1 < l → x ≡ f i / 2 ^ 64 → y ≡ f i % 2 ^ 64 → Filling (halfOf f) l s₀ (set (set s (2 * i) x) (2 * i + 1) y) (2 * (i + 1))
-  row-turn x y h ex ey =
+  -- a step that stores word i
+  pub row-step : (x y : ℕ) → 2 * i + 1 < l → x ≡ f i / 2 ^ 64 → y ≡ f i % 2 ^ 64 → Filling (halfOf f) l s₀ (set (set s (2 * i) x) (2 * i + 1) y) (2 * (i + 1))
+  row-step x y h ex ey =
       let next : 2 * i + 1 + 1 ≡ 2 * (i + 1) = omega arith in
       subst (Filling (halfOf f) l s₀ (set (set s (2 * i) x) (2 * i + 1) y)) next
-      (filling-turn (halfOf f) y (filling-turn (halfOf f) x F (omega arith) (ex ∙ half-upper f i)) (omega arith) (ey ∙ half-lower f i))
+      (filling-step (halfOf f) y (filling-step (halfOf f) x F (omega arith) (ex ∙ half-upper f i)) (omega arith) (ey ∙ half-lower f i))

@@ -3,7 +3,22 @@ ghost use mathlib.Core.Path.{_≡_};
 ghost use mathlib.Core.Logic.{_⊎_};
 ghost use Prim.Native.Nat.{_^_, _<_, _≤_};
 ghost use lib.ListN.{length};
-ghost use Rattle.bits.specs.Bits.{copied};
+ghost use Rattle.bits.specs.definitions.Bits.{copied};
+
+// Powers of two by which numbers are cut, as the definitions write them: 2^24 and so on.
+pub const TWO_24: u64 = 1 << 24;
+
+pub const TWO_32: u64 = 1 << 32;
+
+pub const TWO_46: u64 = 1 << 46;
+
+pub const TWO_48: u64 = 1 << 48;
+
+pub const TWO_55: u64 = 1 << 55;
+
+pub const TWO_60: u64 = 1 << 60;
+
+pub const TWO_62: u64 = 1 << 62;
 
 // A byte as a number of 64 bits.
 pub fn wide8(x: u8) -> u64

@@ -7,16 +7,16 @@ use native.Mathlib.Nat.{add-zero, add-sub-cancel-left}
 use native.Mathlib.Omega.{arith}
 use lib.ListN.{length, getD, take, drop}
 use borrow.Author.Tests.{lt-ltb, le-ltb, le-leb, lt-leb, eq-eqb, ne-eqb}
-use Rattle.bits.specs.Bits.{value}
+use Rattle.bits.specs.definitions.Bits.{value}
 use Rattle.capture.specs.declared.Read.the-variants.{End, Refused, Order, Frame}
-use Rattle.capture.specs.Capture.{layout, four, refusalAt, refusedOr, orderAt, frameAt, readAt, symbolsAt, wanted}
+use Rattle.capture.specs.definitions.Capture.{layout, bigEndianAt, refusalAt, refusedOr, orderAt, frameAt, readAt, symbolsAt, wanted}
 
 module _ (s : List ℕ) (i : ℕ) where
   -- four bytes as a number, byte by byte
-  pub four-is : (a b c d : ℕ) → a ≡ getD s i 0 → b ≡ getD s (i + 1) 0 → c ≡ getD s (i + 2) 0 → d ≡ getD s (i + 3) 0
-      → ((a * 256 + b) * 256 + c) * 256 + d ≡ four s i
-  unfolding four value
-  four-is a b c d p q r t = simp (p, q, r, t, add-zero) (omega arith)
+  pub big-endian-is : (a b c d : ℕ) → a ≡ getD s i 0 → b ≡ getD s (i + 1) 0 → c ≡ getD s (i + 2) 0 → d ≡ getD s (i + 3) 0
+      → ((a * 256 + b) * 256 + c) * 256 + d ≡ bigEndianAt s i
+  unfolding bigEndianAt value
+  big-endian-is a b c d p q r t = simp (p, q, r, t, add-zero) (omega arith)
 
   module _ (bytes kind : ℕ) where
     pub refused-short : length s - i < bytes → 6 ≡ refusalAt s i bytes kind
@@ -47,13 +47,13 @@ module _ (s : List ℕ) (i : ℕ) where
     frame-refused e n = simp (sym e, ne-eqb r 0 n)
 
   pub order-read : (x y z : ℕ) → 0 ≡ refusalAt s i (layout .orderBytes) (layout .orderKind)
-      → x ≡ four s (i + layout .startAt) → y ≡ four s (i + layout .askedAt) → z ≡ four s (i + layout .allowedAt)
+      → x ≡ bigEndianAt s (i + layout .startAt) → y ≡ bigEndianAt s (i + layout .askedAt) → z ≡ bigEndianAt s (i + layout .allowedAt)
       → Order x y z (i + layout .orderBytes) ≡ orderAt s i
   unfolding orderAt refusedOr
   order-read x y z e p q r = simp (sym e, p, q, r)
 
   pub frame-read : (x : ℕ) → 0 ≡ refusalAt s i (layout .frameBytes) (layout .frameKind)
-      → x ≡ four s (i + layout .numberAt) → Frame x (i + layout .symbolsFrom) (i + layout .frameBytes) ≡ frameAt s i
+      → x ≡ bigEndianAt s (i + layout .numberAt) → Frame x (i + layout .symbolsFrom) (i + layout .frameBytes) ≡ frameAt s i
   unfolding frameAt refusedOr
   frame-read x e p = simp (sym e, p)
 
@@ -68,18 +68,18 @@ module _ (s : List ℕ) (i : ℕ) where
     no-length b = simp (lt-leb (length s) i a, lt-ltb (length s - i) (layout .lengthBytes) b)
 
     module _ (b : layout .lengthBytes ≤ length s - i) where
-      pub an-order : four s i ≡ layout .orderLength → orderAt s i ≡ readAt s i
+      pub an-order : bigEndianAt s i ≡ layout .orderLength → orderAt s i ≡ readAt s i
       unfolding readAt
-      an-order n = simp (lt-leb (length s) i a, le-ltb (length s - i) (layout .lengthBytes) b, eq-eqb (four s i) (layout .orderLength) n)
+      an-order n = simp (lt-leb (length s) i a, le-ltb (length s - i) (layout .lengthBytes) b, eq-eqb (bigEndianAt s i) (layout .orderLength) n)
 
-      module _ (n : four s i ≡ layout .orderLength → ⊥) where
-        pub a-frame : four s i ≡ layout .frameLength → frameAt s i ≡ readAt s i
+      module _ (n : bigEndianAt s i ≡ layout .orderLength → ⊥) where
+        pub a-frame : bigEndianAt s i ≡ layout .frameLength → frameAt s i ≡ readAt s i
         unfolding readAt
-        a-frame m = simp (lt-leb (length s) i a, le-ltb (length s - i) (layout .lengthBytes) b, ne-eqb (four s i) (layout .orderLength) n, eq-eqb (four s i) (layout .frameLength) m)
+        a-frame m = simp (lt-leb (length s) i a, le-ltb (length s - i) (layout .lengthBytes) b, ne-eqb (bigEndianAt s i) (layout .orderLength) n, eq-eqb (bigEndianAt s i) (layout .frameLength) m)
 
-        pub no-lawful : (four s i ≡ layout .frameLength → ⊥) → Refused 7 ≡ readAt s i
+        pub no-lawful : (bigEndianAt s i ≡ layout .frameLength → ⊥) → Refused 7 ≡ readAt s i
         unfolding readAt
-        no-lawful m = simp (lt-leb (length s) i a, le-ltb (length s - i) (layout .lengthBytes) b, ne-eqb (four s i) (layout .orderLength) n, ne-eqb (four s i) (layout .frameLength) m)
+        no-lawful m = simp (lt-leb (length s) i a, le-ltb (length s - i) (layout .lengthBytes) b, ne-eqb (bigEndianAt s i) (layout .orderLength) n, ne-eqb (bigEndianAt s i) (layout .frameLength) m)
 
   -- the symbols, and where fewer bytes are left
   pub symbols-none : length s < i + layout .symbols → [] ≡ symbolsAt s i
@@ -101,15 +101,15 @@ module _ (s : List ℕ) where
   wanted-first h = simp (lt-ltb (length s) (layout .lengthBytes) h)
 
   module _ (h : layout .lengthBytes ≤ length s) where
-    pub wanted-order : four s 0 ≡ layout .orderLength → layout .orderBytes ≡ wanted s
+    pub wanted-order : bigEndianAt s 0 ≡ layout .orderLength → layout .orderBytes ≡ wanted s
     unfolding wanted
-    wanted-order n = simp (le-ltb (length s) (layout .lengthBytes) h, eq-eqb (four s 0) (layout .orderLength) n)
+    wanted-order n = simp (le-ltb (length s) (layout .lengthBytes) h, eq-eqb (bigEndianAt s 0) (layout .orderLength) n)
 
-    module _ (n : four s 0 ≡ layout .orderLength → ⊥) where
-      pub wanted-frame : four s 0 ≡ layout .frameLength → layout .frameBytes ≡ wanted s
+    module _ (n : bigEndianAt s 0 ≡ layout .orderLength → ⊥) where
+      pub wanted-frame : bigEndianAt s 0 ≡ layout .frameLength → layout .frameBytes ≡ wanted s
       unfolding wanted
-      wanted-frame m = simp (le-ltb (length s) (layout .lengthBytes) h, ne-eqb (four s 0) (layout .orderLength) n, eq-eqb (four s 0) (layout .frameLength) m)
+      wanted-frame m = simp (le-ltb (length s) (layout .lengthBytes) h, ne-eqb (bigEndianAt s 0) (layout .orderLength) n, eq-eqb (bigEndianAt s 0) (layout .frameLength) m)
 
-      pub wanted-no-more : (four s 0 ≡ layout .frameLength → ⊥) → layout .lengthBytes ≡ wanted s
+      pub wanted-no-more : (bigEndianAt s 0 ≡ layout .frameLength → ⊥) → layout .lengthBytes ≡ wanted s
       unfolding wanted
-      wanted-no-more m = simp (le-ltb (length s) (layout .lengthBytes) h, ne-eqb (four s 0) (layout .orderLength) n, ne-eqb (four s 0) (layout .frameLength) m)
+      wanted-no-more m = simp (le-ltb (length s) (layout .lengthBytes) h, ne-eqb (bigEndianAt s 0) (layout .orderLength) n, ne-eqb (bigEndianAt s 0) (layout .frameLength) m)

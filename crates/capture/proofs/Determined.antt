@@ -15,7 +15,7 @@ use denote.Triple.Clauses.{AtExit}
 use borrow.Fn.Kinds.{Dens, resT, endedOf}
 use Rattle.bits.proofs.Fixes.{Fixes, FixesSaid}
 use Rattle.capture.specs.declared.Reader.{Reader}
-use Rattle.capture.specs.Capture.{readAt, symbolsAt}
+use Rattle.capture.specs.definitions.Capture.{readAt, symbolsAt}
 use Rattle.capture.proofs.read_at.Kinds as read-kinds
 use Rattle.capture.proofs.read_at.Reads as read-reads
 use Rattle.capture.proofs.symbols_at.Kinds as symbols-kinds

@@ -8,7 +8,7 @@ use native.Mathlib.Omega.{arith}
 use lib.ListN.{length, getD}
 use Rattle.capture.specs.declared.Read.{Read}
 use Rattle.capture.specs.declared.Read.the-variants.{End, Refused, Order, Frame}
-use Rattle.capture.specs.Capture.{layout, four, refusalAt, orderAt, frameAt, readAt}
+use Rattle.capture.specs.definitions.Capture.{layout, bigEndianAt, refusalAt, orderAt, frameAt, readAt}
 use Rattle.capture.proofs.Cases.{refused-short, refused-version, refused-kind, not-refused, order-refused, frame-refused, order-read, frame-read, at-end, no-length, an-order, a-frame, no-lawful}
 
 -- a whole record of so many bytes and of this kind
@@ -33,17 +33,17 @@ module _ (s : List ℕ) (i : ℕ) where
 
 -- an order, or a frame, with the numbers that it says
 pub record OrderStands (s : List ℕ) (i start asked allowed next : ℕ) : Type 0 where
-  pub length : four s i ≡ layout .orderLength
+  pub length : bigEndianAt s i ≡ layout .orderLength
   pub whole : Whole s i (layout .orderBytes) (layout .orderKind)
-  pub start-is : start ≡ four s (i + layout .startAt)
-  pub asked-is : asked ≡ four s (i + layout .askedAt)
-  pub allowed-is : allowed ≡ four s (i + layout .allowedAt)
+  pub start-is : start ≡ bigEndianAt s (i + layout .startAt)
+  pub asked-is : asked ≡ bigEndianAt s (i + layout .askedAt)
+  pub allowed-is : allowed ≡ bigEndianAt s (i + layout .allowedAt)
   pub next-is : next ≡ i + layout .orderBytes
 
 pub record FrameStands (s : List ℕ) (i number from next : ℕ) : Type 0 where
-  pub length : four s i ≡ layout .frameLength
+  pub length : bigEndianAt s i ≡ layout .frameLength
   pub whole : Whole s i (layout .frameBytes) (layout .frameKind)
-  pub number-is : number ≡ four s (i + layout .numberAt)
+  pub number-is : number ≡ bigEndianAt s (i + layout .numberAt)
   pub from-is : from ≡ i + layout .symbolsFrom
   pub next-is : next ≡ i + layout .frameBytes
 
@@ -65,7 +65,7 @@ module _ (s : List ℕ) (i : ℕ) where
       go (no h) (yes v) (no k) = let e = refused-kind s i bytes kind (omega arith) v k in (omega arith, omega arith)
       go (no h) (yes v) (yes k) = absurd (n (sym (not-refused s i bytes kind (omega arith) v k)))
 
-  order-stands : four s i ≡ layout .orderLength → Stands s i (orderAt s i)
+  order-stands : bigEndianAt s i ≡ layout .orderLength → Stands s i (orderAt s i)
   unfolding Stands
   order-stands n = go (ℕ-discrete (refusalAt s i (layout .orderBytes) (layout .orderKind)) 0)
     where
@@ -75,7 +75,7 @@ module _ (s : List ℕ) (i : ℕ) where
           (record { length = n; whole = whole s i _ _ e; start-is = refl; asked-is = refl; allowed-is = refl; next-is = refl })
       go (no e) = subst (Stands s i) (order-refused s i _ refl e) (refusal-range _ _ e)
 
-  frame-stands : four s i ≡ layout .frameLength → Stands s i (frameAt s i)
+  frame-stands : bigEndianAt s i ≡ layout .frameLength → Stands s i (frameAt s i)
   unfolding Stands
   frame-stands n = go (ℕ-discrete (refusalAt s i (layout .frameBytes) (layout .frameKind)) 0)
     where
@@ -86,9 +86,9 @@ module _ (s : List ℕ) (i : ℕ) where
 
   pub stands : Stands s i (readAt s i)
   unfolding Stands
-  stands = go (decLt i (length s)) (decLt (length s - i) (layout .lengthBytes)) (ℕ-discrete (four s i) (layout .orderLength)) (ℕ-discrete (four s i) (layout .frameLength))
+  stands = go (decLt i (length s)) (decLt (length s - i) (layout .lengthBytes)) (ℕ-discrete (bigEndianAt s i) (layout .orderLength)) (ℕ-discrete (bigEndianAt s i) (layout .frameLength))
     where
-      go : Dec (i < length s) → Dec (length s - i < layout .lengthBytes) → Dec (four s i ≡ layout .orderLength) → Dec (four s i ≡ layout .frameLength)
+      go : Dec (i < length s) → Dec (length s - i < layout .lengthBytes) → Dec (bigEndianAt s i ≡ layout .orderLength) → Dec (bigEndianAt s i ≡ layout .frameLength)
           → Stands s i (readAt s i)
       go (no h) l n f = let out : length s ≤ i = omega arith in subst (Stands s i) (at-end s i out) out
       go (yes h) (yes l) n f = subst (Stands s i) (no-length s i h l) (omega arith, omega arith)

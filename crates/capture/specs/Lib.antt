@@ -1,4 +1,2 @@
-pub mod Capture
-pub mod Local
-pub mod Records
-pub mod Examples
+pub mod definitions
+pub mod statements

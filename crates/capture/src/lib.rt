@@ -2,7 +2,7 @@
 ghost use mathlib.Core.Path.{_≡_};
 ghost use Prim.Native.Nat.{_+_, _<_, _≤_};
 ghost use lib.ListN.{length};
-ghost use Rattle.capture.specs.Capture.{layout, four, refusalAt, orderAt, frameAt, readAt, nextOf, symbolsAt, wanted};
+ghost use Rattle.capture.specs.definitions.Capture.{layout, bigEndianAt, refusalAt, orderAt, frameAt, readAt, nextOf, symbolsAt, wanted};
 
 // A record's length comes first: its bytes, and the two lengths that are admitted.
 const LENGTH_BYTES: usize = 4;
@@ -59,9 +59,9 @@ pub enum Read {
 }
 
 // The four bytes from a place on as a number, big-endian.
-fn four(capture: &[u8], place: usize) -> u32
+fn big_endian_at(capture: &[u8], place: usize) -> u32
     requires { ⌜ place + 4 ≤ length (now capture) ⌝ }
-    ensures { λ r. ⌜ r ≡ four (now (capture .entry)) place ⌝ }
+    ensures { λ r. ⌜ r ≡ bigEndianAt (now (capture .entry)) place ⌝ }
 {
     let a = bits::wide8(capture[place]);
     let b = bits::wide8(capture[place + 1]);
@@ -97,9 +97,9 @@ fn order_at(capture: &[u8], place: usize) -> Read
     if refusal != 0 {
         return Read::Refused(refusal);
     }
-    let start = four(capture, place + START_AT);
-    let asked = four(capture, place + ASKED_AT);
-    let allowed = four(capture, place + ALLOWED_AT);
+    let start = big_endian_at(capture, place + START_AT);
+    let asked = big_endian_at(capture, place + ASKED_AT);
+    let allowed = big_endian_at(capture, place + ALLOWED_AT);
     Read::Order {
         start,
         asked,
@@ -117,7 +117,7 @@ fn frame_at(capture: &[u8], place: usize) -> Read
     if refusal != 0 {
         return Read::Refused(refusal);
     }
-    let number = four(capture, place + NUMBER_AT);
+    let number = big_endian_at(capture, place + NUMBER_AT);
     Read::Frame {
         number,
         from: place + SYMBOLS_FROM,
@@ -135,7 +135,7 @@ pub fn read_at(capture: &[u8], place: usize) -> Read
     if capture.len() - place < LENGTH_BYTES {
         return Read::Refused(6);
     }
-    let length = four(capture, place);
+    let length = big_endian_at(capture, place);
     if length == ORDER_LENGTH {
         return order_at(capture, place);
     }
@@ -166,7 +166,7 @@ pub fn wanted(piece: &[u8]) -> usize
     if piece.len() < LENGTH_BYTES {
         return LENGTH_BYTES;
     }
-    let length = four(piece, 0);
+    let length = big_endian_at(piece, 0);
     if length == ORDER_LENGTH {
         return ORDER_BYTES;
     }

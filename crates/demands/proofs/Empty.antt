@@ -5,10 +5,10 @@ use mathlib.Core.List.{List}
 use Prim.Native.Nat.{ℕ, _/_, _%_}
 use native.Mathlib.Omega.{arith}
 use lib.ListN.{replicate, getD-replicate}
-use Rattle.bits.specs.Bits.{bitOf, bitAt}
-use Rattle.lanes.specs.Permutation.{Places}
-use Rattle.lanes.specs.Stream.{streamBit}
-use Rattle.demands.specs.Return.{Undamaged}
+use Rattle.bits.specs.definitions.Bits.{bitOf, bitAt}
+use Rattle.lanes.specs.definitions.Permutation.{Places}
+use Rattle.lanes.specs.definitions.Stream.{streamBit}
+use Rattle.demands.specs.definitions.Return.{Undamaged}
 use Rattle.demands.proofs.Return.{return}
 
 -- two frames of ones: bit 120 of a lane in the second is the first bit that was sent, so that zeros cannot be left there

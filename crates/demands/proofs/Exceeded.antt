@@ -12,29 +12,31 @@ use lib.Dec.{eqb, ltb, lit<}
 use lib.ListN.{length, getD, replicate, length-replicate}
 use lib.Bits.{bitXor, differ, xor-self, xor-zero-r}
 use borrow.Author.Tests.{ltb-true, lt-ltb, eq-eqb, ne-eqb}
-use Rattle.bits.specs.Bits.{bitOf, count}
-use Rattle.bits.specs.Words.{wordAt, rowOf}
+use Rattle.bits.specs.definitions.Bits.{bitOf, count}
+use Rattle.bits.specs.definitions.Words.{wordAt, rowOf}
 use Rattle.bits.proofs.Words.{row-at}
 use Rattle.bits.proofs.Count.{count-none, count-pos}
 use Rattle.bits.proofs.Weight.{weight-zero}
-use Rattle.bch.specs.Code.{distance}
-use Rattle.bch.proofs.Distance.{distance-weight}
-use Rattle.bch.proofs.Theorems.{nothing, three-flagged, flagged-passes}
-use Rattle.lanes.specs.Permutation.{Lanes, Places, named, partner}
-use Rattle.lanes.specs.Stream.{streamBit, deinterleaved}
+use Rattle.bch.specs.definitions.Code.{distance}
+use Rattle.decoder.proofs.Distance.{distance-weight}
+use Rattle.decoder.proofs.Theorems.{nothing, three-flagged, flagged-passes}
+use Rattle.lanes.specs.definitions.Permutation.{Lanes, Places, named, partner}
+use Rattle.lanes.specs.definitions.Stream.{streamBit, deinterleaved}
 use Rattle.lanes.proofs.Return.{across, across-lt, across-twice, fetched}
-use Rattle.symbols.specs.Frame.{frameOf, arrived}
-use Rattle.symbols.specs.Pilots.{pilots, lockLimit}
+use Rattle.symbols.specs.definitions.Frame.{frameOf, arrived}
+use Rattle.pilots.specs.definitions.Table5.{pilots}
+use Rattle.pilots.specs.definitions.Pilots.{lockLimit}
 use Rattle.symbols.proofs.Return.{frame-pilot, arrived-frame}
-use Rattle.framing.specs.Receive.{broughtLanes}
+use Rattle.framing.specs.definitions.Receive.{broughtLanes}
 use Rattle.framing.proofs.Receiving.{all-lengths}
 use Rattle.framing.proofs.Received.{passedOn, brought-bit, store-whole}
-use Rattle.demands.specs.Trial.{hit, hitPilots, Trial, Accepted, flipsIn}
-use Rattle.demands.specs.ReedSolomon.{Labels, Spans, SpansExist, carries, heavyWords, wrongSymbol, wrongSymbols, Exceeded, OtherPlaces, OtherPairs}
+use Rattle.demands.specs.definitions.Trial.{hit, hitPilots, Trial, Accepted, flipsIn}
+use Rattle.demands.specs.definitions.ReedSolomon.{Labels, Spans, carries, heavyWords, wrongSymbol, wrongSymbols, Exceeded}
+use Rattle.demands.specs.statements.ReedSolomon.{SpansExist, OtherPlaces, OtherPairs}
 use Rattle.demands.proofs.Hit.{hit-at, hit-word, hit-length, hit-locks}
 use Rattle.demands.proofs.Trial.{frame-pilots, differs-by, trials-exist}
 use Rattle.demands.proofs.ReedSolomon.{differ-none}
-use Rattle.demands.proofs.Totals.{both, left, total-one, total-two}
+use Rattle.demands.proofs.LaneCounts.{both, left, lanes-one, lanes-two}
 
 -- ---- flips that hit word 0 of lane 0 alone
 
@@ -241,9 +243,9 @@ module _ (ex : Places) (s t : ℕ) (order : s < t) (four : t < 4) (parity : s % 
   exceeds =
       omega (
         arith,
-        total-one (λ p w. ltb 2 (flipsIn flips p w) && carries ex start (start lane s) p w) (12 * 2)
+        lanes-one (λ p w. ltb 2 (flipsIn flips p w) && carries ex start (start lane s) p w) (12 * 2)
             (λ p w hp hw y. first-only p w hp (ltb-true 2 (flipsIn flips p w) (left (ltb 2 (flipsIn flips p w)) _ y))),
-        total-two (λ p u. ltb (u + 144) (132 * 2) && wrongSymbol (run .back) (run .cleanBack) p u && eqb (start p u) (start lane s)) (132 * 2) lane s t lane-lt order (omega arith)
+        lanes-two (λ p u. ltb (u + 144) (132 * 2) && wrongSymbol (run .back) (run .cleanBack) p u && eqb (start p u) (start lane s)) (132 * 2) lane s t lane-lt order (omega arith)
             (counted s (omega arith) refl at-s refl) (counted t four (sym side) at-t same-label),
       )
 

@@ -1,4 +1,4 @@
--- A frame hit by flips: its words are the words sent with the words' flips, and its lock hangs on the flips alone.
+-- A frame hit by flips: its words are the words sent with the words' flips, and its lock depends on the flips alone.
 -- Assumes nothing.
 use mathlib.Core.Path.{_≡_, sym, ap, ap₂, _∙_, subst}
 use mathlib.Core.Bool.{true, not, _&&_}
@@ -12,29 +12,32 @@ use borrow.Author.Tests.{lt-ltb, eq-eqb, ne-eqb}
 use lib.ListN.{length, getD}
 use lib.Seq.{ext-getD}
 use lib.Bits.{bitXor, differ, xor-lt, xor-self, xor-zero-r}
-use Rattle.bits.specs.Bits.{bitOf}
+use Rattle.bits.specs.definitions.Bits.{bitOf}
 use Rattle.bits.proofs.Tabulate.{length-tabulate, getD-tabulate}
 use Rattle.bits.proofs.Count.{count-cong}
 use Rattle.bits.proofs.Value.{bit-xor, bit-ext}
 use Rattle.bits.proofs.Fields.{bitAt-byte}
 use Rattle.bits.proofs.Xor.{xor-swap, xor-cancel}
 use Rattle.bits.proofs.Weight.{weight, weight-zero}
-use Rattle.bch.specs.Code.{CodeWord, distance}
-use Rattle.bch.specs.Mend.{mend, mended, flagOf}
-use Rattle.bch.specs.Word.{mendedFrame}
-use Rattle.bch.proofs.Distance.{distance-weight}
-use Rattle.bch.proofs.Theorems.{mends-two, two-vanish, flips-alone}
-use Rattle.lanes.specs.Stream.{streamBit}
-use Rattle.lanes.proofs.LaneWords.{lanes-information}
-use Rattle.symbols.specs.Mapping.{place, payloadAt, symbolOf, bitIn}
-use Rattle.symbols.specs.Pilots.{pilots, met, wrongPilots, locks, lockLimit}
-use Rattle.symbols.specs.Frame.{placedBit, arrived, wordsOf}
-use Rattle.symbols.proofs.Places.{place-lt, symbol-lt, bitIn-lt}
+use Rattle.bch.specs.definitions.Code.{CodeWord, distance}
+use Rattle.decoder.specs.definitions.Mend.{mend, mended, flagOf}
+use Rattle.decoder.specs.definitions.Word.{mendedFrame}
+use Rattle.decoder.proofs.Distance.{distance-weight}
+use Rattle.decoder.proofs.Theorems.{mends-two, two-vanish, flips-alone}
+use Rattle.lanes.specs.definitions.Stream.{streamBit}
+use Rattle.lane_words.proofs.LaneWords.{lanes-information}
+use Rattle.shuffle.specs.definitions.Shuffle.{place}
+use Rattle.symbols.specs.definitions.Mapping.{payloadAt, symbolOf, bitIn}
+use Rattle.pilots.specs.definitions.Table5.{pilots}
+use Rattle.pilots.specs.definitions.Pilots.{met, wrongPilots, locks, lockLimit}
+use Rattle.symbols.specs.definitions.Frame.{placedBit, arrived, wordsOf}
+use Rattle.shuffle.proofs.Places.{place-lt}
+use Rattle.symbols.proofs.Places.{symbol-lt, bitIn-lt}
 use Rattle.symbols.proofs.Return.{payload-lt, arrived-lt, arrived-bit}
-use Rattle.framing.specs.Receive.{broughtLanes, receivedFlags}
+use Rattle.framing.specs.definitions.Receive.{broughtLanes, receivedFlags}
 use Rattle.framing.proofs.Receiving.{flags-length}
 use Rattle.framing.proofs.Received.{passedOn, passed-at, flag-at, brought-bit}
-use Rattle.demands.specs.Trial.{hit, hitPilots}
+use Rattle.demands.specs.definitions.Trial.{hit, hitPilots}
 
 module _ (f e : List ℕ) where
   pub hit-length : length (hit f e) ≡ 6144
@@ -90,13 +93,13 @@ hit-locks f e pilot = ap (λ (n : ℕ). ltb n lockLimit) (count-cong 96 _ _ (λ 
 
 -- ---- what is made of a hit frame of code words
 
--- a code word is passedOn on as it is
+-- a code word is passed on as it is
 pub code-passed : (c : ℕ) → CodeWord c → c < 2 ^ 126 → passedOn c ≡ c
 unfolding passedOn
 code-passed c C h = mends-two c c C h (omega (arith, distance-weight c c, ap (weight 126) (xor-self c), weight-zero 126)) .0
 
 module _ (f e : List ℕ) (code : (i : ℕ) → i < 384 → CodeWord (arrived f i)) where
-  -- a word is passedOn on as sent, but for what is left of the flips
+  -- a word is passed on as sent, but for what is left of the flips
   passed-hit : (i : ℕ) → i < 384 → passedOn (arrived (hit f e) i) ≡ bitXor (passedOn (arrived f i)) (passedOn (arrived e i))
   unfolding passedOn
   passed-hit i h =

@@ -5,10 +5,11 @@ use mathlib.Core.Logic.{_≢_, ⊎-elim}
 use mathlib.Core.Bool.{Bool, true, false, cond}
 use Prim.Native.Nat.{ℕ, zero, suc, _+_, _*_, _-_, _/_, _%_, _≤_, _<_}
 use native.Mathlib.Omega.{arith}
-use Rattle.lanes.specs.Permutation.{Places, partner}
+use Rattle.lanes.specs.definitions.Permutation.{Places, partner}
 use Rattle.lanes.proofs.Rows.{lt-or-le}
 use Rattle.lanes.proofs.Return.{across}
-use Rattle.demands.specs.ReedSolomon.{Labels, Labelled, SpansLabel}
+use Rattle.demands.specs.definitions.ReedSolomon.{Labels, Labelled}
+use Rattle.demands.specs.statements.ReedSolomon.{SpansLabel}
 
 -- symbol s of a lane is carried as symbol slot s of the lane that it goes across to, so in that lane's word slot s / 11
 abbrev pub slot : ℕ → ℕ

@@ -3,7 +3,7 @@ pub mod Return
 pub mod Trial
 pub mod OneForAll
 pub mod Tallies
-pub mod Totals
+pub mod LaneCounts
 pub mod Labels
 pub mod ReedSolomon
 pub mod Exceeded
@@ -14,3 +14,4 @@ pub mod Lines
 pub mod Verdict
 pub mod Theorems
 pub mod Empty
+pub mod Host

@@ -9,14 +9,14 @@ use native.Mathlib.Omega.{arith}
 use lib.Dec.{eqb}
 use lib.ListN.{length, getD}
 use borrow.Author.Tests.{ne-eqb}
-use Rattle.bits.specs.Bits.{tabulate}
+use Rattle.bits.specs.definitions.Bits.{tabulate}
 use Rattle.account.specs.declared.Verdict.{Verdict}
 use Rattle.account.specs.declared.Verdict.the-variants.{NotMeasured, Pass, Fail}
 use Rattle.bench.specs.declared.Run.{Run}
-use Rattle.bench.specs.Run.{verdictOf}
-use Rattle.bench.specs.Report.{ascii, decimal, line, words, figures, verdictLine, text}
-use Rattle.bench.proofs.Decimal.{decimal-reads}
-use Rattle.demands.specs.Verdict.{linesFrom}
+use Rattle.bench.specs.definitions.Run.{verdictOf}
+use Rattle.report.specs.definitions.Report.{ascii, decimal, line, verdictName, figureLines, verdictLine, text}
+use Rattle.report.proofs.Decimal.{decimal-reads}
+use Rattle.demands.specs.definitions.Verdict.{linesFrom}
 
 -- no line ends in it
 plain : List ℕ → Bool
@@ -64,8 +64,8 @@ one-of-figures : (name : List ℕ) (n : ℕ) (more last : List ℕ) → plain na
 one-of-figures name n more last h = ap (linesFrom []) (append-assoc (line name n) more last) ∙ figure-line name n (more ++ last) h
 
 -- the line of the verdict
-last-line : (v : Verdict) → linesFrom [] (verdictLine v) ≡ (ascii "verdict " ++ words v) ∷ []
-unfolding verdictLine words linesFrom tabulate
+last-line : (v : Verdict) → linesFrom [] (verdictLine v) ≡ (ascii "verdict " ++ verdictName v) ∷ []
+unfolding verdictLine verdictName linesFrom tabulate
 last-line NotMeasured = refl
 last-line Pass = refl
 last-line Fail = refl
@@ -80,11 +80,11 @@ eight r =
     ∷ (ascii "one " ++ decimal (r .account .words .one))
     ∷ (ascii "two " ++ decimal (r .account .words .two))
     ∷ (ascii "flagged " ++ decimal (r .account .words .flagged))
-    ∷ (ascii "verdict " ++ words (verdictOf r))
+    ∷ (ascii "verdict " ++ verdictName (verdictOf r))
     ∷ []
 
 pub text-lines : (r : Run) → linesFrom [] (text r) ≡ eight r
-unfolding text figures plain tabulate
+unfolding text figureLines plain tabulate
 text-lines r =
     let last = verdictLine (verdictOf r) in
     one-of-figures (ascii "asked ") (r .asked) _ last refl
@@ -103,8 +103,8 @@ text-lines r =
     ∙ ap (λ (l : List (List ℕ)). (ascii "flagged " ++ decimal (r .account .words .flagged)) ∷ l) (last-line (verdictOf r))))))))
 
 -- a verdict is told by the first letter of its words
-letter : (v w : Verdict) → getD (words v) 0 0 ≡ getD (words w) 0 0 → v ≡ w
-unfolding words tabulate
+letter : (v w : Verdict) → getD (verdictName v) 0 0 ≡ getD (verdictName w) 0 0 → v ≡ w
+unfolding verdictName tabulate
 letter NotMeasured NotMeasured e = refl
 letter NotMeasured Pass e = absurd (omega arith)
 letter NotMeasured Fail e = absurd (omega arith)
@@ -116,7 +116,7 @@ letter Fail Pass e = absurd (omega arith)
 letter Fail Fail e = refl
 
 -- a line that says a verdict is the last one, and says the run's verdict
-pub verdict-said : (r : Run) (v : Verdict) (place : ℕ) → place < length (eight r) → getD (eight r) place [] ≡ ascii "verdict " ++ words v → verdictOf r ≡ v
+pub verdict-said : (r : Run) (v : Verdict) (place : ℕ) → place < length (eight r) → getD (eight r) place [] ≡ ascii "verdict " ++ verdictName v → verdictOf r ≡ v
 unfolding tabulate
 verdict-said r v zero h e = absurd (let z : _≡_ {A = ℕ} 97 118 = ap (λ (l : List ℕ). getD l 0 0) e in omega arith)
 verdict-said r v (suc zero) h e = absurd (let z : _≡_ {A = ℕ} 97 118 = ap (λ (l : List ℕ). getD l 0 0) e in omega arith)

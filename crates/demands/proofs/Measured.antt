@@ -11,31 +11,31 @@ use lib.Dec.{eqb}
 use lib.ListN.{replicate}
 use borrow.Author.Tests.{eq-eqb, ne-eqb}
 use Rattle.bits.proofs.Count.{count-cong}
-use Rattle.bch.specs.declared.Mend.{Mend}
-use Rattle.bch.specs.declared.Mend.the-variants.{Clean, One, Two, Flagged}
-use Rattle.bch.specs.Mend.{mend, flagOf}
-use Rattle.symbols.specs.Frame.{arrived}
-use Rattle.symbols.specs.Pilots.{locks}
-use Rattle.framing.specs.Receive.{receivedStore, receivedFlags}
+use Rattle.decoder.specs.declared.Mend.{Mend}
+use Rattle.decoder.specs.declared.Mend.the-variants.{Clean, One, Two, Flagged}
+use Rattle.decoder.specs.definitions.Mend.{mend, flagOf}
+use Rattle.symbols.specs.definitions.Frame.{arrived}
+use Rattle.pilots.specs.definitions.Pilots.{locks}
+use Rattle.framing.specs.definitions.Receive.{receivedStore, receivedFlags}
 use Rattle.framing.proofs.Received.{flag-at}
 use Rattle.account.specs.declared.Account.{Account}
 use Rattle.account.specs.declared.Entry.{Entry}
 use Rattle.account.specs.declared.Tallies.{Tallies}
-use Rattle.account.specs.Account.{frameLimit, total, opened, counted, talliesOf, ahead, over, grown, frameEntered, lossEntered, measured}
+use Rattle.account.specs.definitions.Account.{frameLimit, total, opened, counted, talliesOf, ahead, over, grown, frameEntered, lossEntered, measured}
 use Rattle.account.proofs.Limits.{under, within}
 use Rattle.account.proofs.Entered.{frame-done}
-use Rattle.account.proofs.Taken.{frame-taken, loss-taken}
-use Rattle.account.proofs.Judged.{measured-means}
+use Rattle.account.proofs.AcceptedEntry.{frame-taken, loss-taken}
+use Rattle.account.proofs.VerdictMeaning.{measured-means}
 use Rattle.account.proofs.Kept.{brings}
 use Rattle.capture.specs.declared.Read.{Read}
 use Rattle.capture.specs.declared.Read.the-variants.{End, Refused, Order, Frame}
-use Rattle.capture.specs.Capture.{readAt, nextOf, symbolsAt, inTurn}
+use Rattle.capture.specs.definitions.Capture.{readAt, nextOf, symbolsAt, frameNumber}
 use Rattle.bench.specs.declared.Phase.{Phase}
 use Rattle.bench.specs.declared.Phase.the-variants.{Unordered, Going, Stopped}
-use Rattle.bench.specs.Run.{State, noted, entryOf, framed, orderCame, frameCame, halted, cameAs, goesOn}
-use Rattle.bench.specs.Walk.{walked}
+use Rattle.bench.specs.definitions.Run.{State, noted, entryOf, framed, orderCame, frameCame, halted, cameAs, goesOn}
+use Rattle.bench.specs.definitions.Walk.{walked}
 use Rattle.bench.proofs.Walk.{came-stays, refused-stops}
-use Rattle.demands.specs.Verdict.{wordsWith, wordsIn}
+use Rattle.demands.specs.definitions.Verdict.{wordsWith, wordsIn}
 
 -- ---- the words of a frame, counted
 
@@ -78,38 +78,38 @@ storeAfter frames (suc k) = receivedStore (frames k) (storeAfter frames k)
 module _ (start : ℕ) (frames : ℕ → List ℕ) where
   -- the account after k frames in their turn
   abbrev pub allAccepted : ℕ → Account
-  allAccepted k = record { expected = inTurn start k; accepted = k; missing = 0; words = allTallies frames k }
+  allAccepted k = record { expected = frameNumber start k; accepted = k; missing = 0; words = allTallies frames k }
 
-  in-turn : (k : ℕ) → _≡_ {A = ℕ} 0 (ahead (inTurn start k) (inTurn start k))
+  not-ahead : (k : ℕ) → _≡_ {A = ℕ} 0 (ahead (frameNumber start k) (frameNumber start k))
   unfolding ahead
-  in-turn k = omega arith
+  not-ahead k = omega arith
 
-  next-account : (k : ℕ) → allAccepted (suc k) ≡ grown (allAccepted k) (inTurn start k) 1 0 (frameTallies (frames k))
+  next-account : (k : ℕ) → allAccepted (suc k) ≡ grown (allAccepted k) (frameNumber start k) 1 0 (frameTallies (frames k))
   unfolding wordsIn
   next-account k =
-      let e : inTurn start (suc k) ≡ (inTurn start k + 1) % 2 ^ 32 = omega arith in
+      let e : frameNumber start (suc k) ≡ (frameNumber start k + 1) % 2 ^ 32 = omega arith in
       let n : suc k ≡ k + 1 = omega arith in
       λ i. record { expected = e i; accepted = n i; missing = 0; words = allTallies frames (suc k) }
 
-  entered-next : (k : ℕ) → k < frameLimit → record { refusal = 0; account = allAccepted (suc k) } ≡ frameEntered (allAccepted k) (inTurn start k) (frameTallies (frames k))
+  entered-next : (k : ℕ) → k < frameLimit → record { refusal = 0; account = allAccepted (suc k) } ≡ frameEntered (allAccepted k) (frameNumber start k) (frameTallies (frames k))
   entered-next k h =
-      frame-done (allAccepted k) (inTurn start k) 0 (in-turn k) (frameTallies (frames k)) refl false true (sym limits) refl (sym (eq-eqb (total (frameTallies (frames k))) 384 (words-due (frames k)))) (allAccepted (suc k))
+      frame-done (allAccepted k) (frameNumber start k) 0 (not-ahead k) (frameTallies (frames k)) refl false true (sym limits) refl (sym (eq-eqb (total (frameTallies (frames k))) 384 (words-due (frames k)))) (allAccepted (suc k))
       (next-account k) refl
     where
-      limits : over (grown (allAccepted k) (inTurn start k) 1 0 (frameTallies (frames k))) ≡ false
+      limits : over (grown (allAccepted k) (frameNumber start k) 1 0 (frameTallies (frames k))) ≡ false
       limits =
           let a = all-words frames k in
           let d = words-due (frames k) in
-          within (grown (allAccepted k) (inTurn start k) 1 0 (frameTallies (frames k))) (omega arith) (omega arith) (omega arith) (omega arith) (omega arith) (omega arith)
+          within (grown (allAccepted k) (frameNumber start k) 1 0 (frameTallies (frames k))) (omega arith) (omega arith) (omega arith) (omega arith) (omega arith) (omega arith)
 
 module _ (start asked allowed : ℕ) (frames : ℕ → List ℕ) where
   -- the run after an order and k frames in their turn
   abbrev pub after : ℕ → State
   after k = record { run = record { phase = Going; asked = asked; allowed = allowed; account = allAccepted start frames k }; store = storeAfter frames k }
 
-  pub framed-next : (k : ℕ) → k < frameLimit → locks (frames k) 0 ≡ true → framed (after k) (inTurn start k) (frames k) ≡ after (suc k)
+  pub framed-next : (k : ℕ) → k < frameLimit → locks (frames k) 0 ≡ true → framed (after k) (frameNumber start k) (frames k) ≡ after (suc k)
   unfolding framed entryOf storeAfter
-  framed-next k h l = rw (l, tallies-are (allAccepted start frames k) (inTurn start k) (frames k), sym (entered-next start frames k h)) refl
+  framed-next k h l = rw (l, tallies-are (allAccepted start frames k) (frameNumber start k) (frames k), sym (entered-next start frames k h)) refl
 
 -- ---- a run that loses its turn once
 
@@ -184,8 +184,8 @@ refused-lost st got f l n = rw (l, ne-eqb _ 0 n) (inl refl)
 -- a frame that comes after k frames in their turn: it is the next one, or the turn is lost
 module _ (start asked allowed : ℕ) (frames : ℕ → List ℕ) where
   pub next-or-lost : (k number : ℕ) (f : List ℕ) → number < 2 ^ 32
-      → Lost (framed (after start asked allowed frames k) number f) ⊎ ((number ≡ inTurn start k) × (locks f 0 ≡ true) × (k < frameLimit))
-  next-or-lost k number f h = go (locks f 0) refl (ℕ-discrete number (inTurn start k)) (ℕ-discrete (e .refusal) 0)
+      → Lost (framed (after start asked allowed frames k) number f) ⊎ ((number ≡ frameNumber start k) × (locks f 0 ≡ true) × (k < frameLimit))
+  next-or-lost k number f h = go (locks f 0) refl (ℕ-discrete number (frameNumber start k)) (ℕ-discrete (e .refusal) 0)
     where
       a : Account
       a = allAccepted start frames k
@@ -193,11 +193,11 @@ module _ (start asked allowed : ℕ) (frames : ℕ → List ℕ) where
       e : Entry
       e = frameEntered a number (talliesOf a number (receivedFlags f))
 
-      ahead-of : number ≢ inTurn start k → 1 ≤ 0 + ahead number (inTurn start k)
+      ahead-of : number ≢ frameNumber start k → 1 ≤ 0 + ahead number (frameNumber start k)
       ahead-of n = other number (start + k) h n
 
-      go : (l : Bool) → locks f 0 ≡ l → Dec (number ≡ inTurn start k) → Dec (e .refusal ≡ 0)
-          → Lost (framed (after start asked allowed frames k) number f) ⊎ ((number ≡ inTurn start k) × (locks f 0 ≡ true) × (k < frameLimit))
+      go : (l : Bool) → locks f 0 ≡ l → Dec (number ≡ frameNumber start k) → Dec (e .refusal ≡ 0)
+          → Lost (framed (after start asked allowed frames k) number f) ⊎ ((number ≡ frameNumber start k) × (locks f 0 ≡ true) × (k < frameLimit))
       go false l d r = inl (framed-lost (after start asked allowed frames k) number f (inr l))
       go true l (no n) r = inl (framed-lost (after start asked allowed frames k) number f (inl (ahead-of n)))
       go true l (yes n) (yes z) = inr (n, l, (let u = under _ (frame-taken a number (talliesOf a number (receivedFlags f)) z .within) .0 in omega arith))

@@ -7,18 +7,18 @@ use mathlib.Core.List.{List}
 use Prim.Native.Nat.{ℕ, _≤_}
 use native.Mathlib.Omega.{arith}
 use borrow.Author.Tests.{eq-eqb}
-use Rattle.symbols.specs.Pilots.{locks}
-use Rattle.framing.specs.Receive.{receivedFlags}
+use Rattle.pilots.specs.definitions.Pilots.{locks}
+use Rattle.framing.specs.definitions.Receive.{receivedFlags}
 use Rattle.account.specs.declared.Account.{Account}
-use Rattle.account.specs.Account.{talliesOf, total, ahead, late, over, withFrame, withLoss, frameEntered, lossEntered}
+use Rattle.account.specs.definitions.Account.{talliesOf, total, ahead, late, over, withFrame, withLoss, frameEntered, lossEntered}
 use Rattle.capture.specs.declared.Read.{Read}
 use Rattle.capture.specs.declared.Read.the-variants.{End, Refused, Order, Frame}
-use Rattle.capture.specs.Capture.{readAt, symbolsAt}
+use Rattle.capture.specs.definitions.Capture.{readAt, symbolsAt}
 use Rattle.capture.proofs.Found.{Stands, stands}
 use Rattle.bench.specs.declared.Phase.{Phase}
 use Rattle.bench.specs.declared.Phase.the-variants.{Unordered, Going, Stopped}
-use Rattle.bench.specs.Run.{State, isStopped, entryOf, frameRefusal, refusalOf, stepRefusal}
-use Rattle.demands.specs.Verdict.{StepNumbers}
+use Rattle.bench.specs.definitions.Run.{State, isStopped, entryOf, frameRefusal, refusalOf, stepRefusal}
+use Rattle.demands.specs.statements.Verdict.{StepNumbers}
 use Rattle.demands.proofs.Measured.{tallies-are, words-due}
 
 -- none, or 6 to 11

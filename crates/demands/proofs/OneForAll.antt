@@ -1,4 +1,4 @@
--- `OneForAll` and `TwoFlips`: numbers hang on lengths and lock, flags and differences on the flips alone.
+-- `OneForAll` and `TwoFlips`: numbers depend on lengths and lock, flags and differences on the flips alone.
 -- Assumes nothing.
 use mathlib.Core.Path.{_≡_, refl, sym, ap, ap₂, _∙_, subst}
 use mathlib.Core.Logic.{_≢_}
@@ -9,18 +9,19 @@ use lib.ListN.{getD}
 use lib.Bits.{differ}
 use Rattle.bits.proofs.Value.{differ-mod}
 use Rattle.bits.proofs.Fields.{bitAt-lt}
-use Rattle.bch.specs.Code.{distance}
-use Rattle.bch.proofs.Theorems.{nothing, mends-two}
-use Rattle.lanes.specs.Permutation.{Places}
-use Rattle.lanes.specs.Interleaver.{unwovenFrame, unwovenStore}
-use Rattle.lanes.specs.Stream.{streamBit, deinterleaved}
+use Rattle.bch.specs.definitions.Code.{distance}
+use Rattle.decoder.proofs.Theorems.{nothing, mends-two}
+use Rattle.lanes.specs.definitions.Permutation.{Places}
+use Rattle.lanes.specs.definitions.Interleaver.{deinterleavedFrame, deinterleavedStore}
+use Rattle.lanes.specs.definitions.Stream.{streamBit, deinterleaved}
 use Rattle.lanes.proofs.Return.{deinterleaved-lt}
-use Rattle.symbols.specs.Frame.{arrived}
+use Rattle.symbols.specs.definitions.Frame.{arrived}
 use Rattle.symbols.proofs.Return.{arrived-lt}
-use Rattle.framing.specs.Receive.{broughtLanes}
+use Rattle.framing.specs.definitions.Receive.{broughtLanes}
 use Rattle.framing.proofs.Received.{flag-at, call-done}
-use Rattle.demands.specs.Trial.{hit, Trial, Accepted, flipsIn}
-use Rattle.demands.specs.OneForAll.{Wrong, OneForAll, TwoFlips}
+use Rattle.demands.specs.definitions.Trial.{hit, Trial, Accepted, flipsIn}
+use Rattle.demands.specs.definitions.Trial.{Wrong}
+use Rattle.demands.specs.statements.OneForAll.{OneForAll, TwoFlips}
 use Rattle.demands.proofs.Hit.{brought-two}
 use Rattle.demands.proofs.Trial.{code-words, refused-exactly, flags-of-flips, clean-accepted, differs-by}
 
@@ -72,13 +73,13 @@ module _ {ex : Places} {n : ℕ} {flips lanes room outs flagBuffers : ℕ → Li
   same-store zero h = t .received .fresh ∙ sym (t .undamaged .fresh)
   same-store (suc f) h =
       call-done ex n (λ f. hit (t .frames f) (flips f)) outs flagBuffers (t .numbers) (t .stores) (t .back) (t .flagBytes) (t .received) f h (accepted f h) .0
-      ∙ ap₂ unwovenStore (brought f h) (same-store f (omega arith))
+      ∙ ap₂ deinterleavedStore (brought f h) (same-store f (omega arith))
       ∙ sym (call-done ex n (t .frames) outs flagBuffers (t .cleanNumbers) (t .cleanStores) (t .cleanBack) (t .cleanFlags) (t .undamaged) f h (clean-accepted t accepted f h) .0)
 
   as-undamaged : (f : ℕ) → f < n → t .back f ≡ t .cleanBack f
   as-undamaged f h =
       call-done ex n (λ f. hit (t .frames f) (flips f)) outs flagBuffers (t .numbers) (t .stores) (t .back) (t .flagBytes) (t .received) f h (accepted f h) .1
-      ∙ ap₂ (unwovenFrame ex) (brought f h) (same-store f (omega arith))
+      ∙ ap₂ (deinterleavedFrame ex) (brought f h) (same-store f (omega arith))
       ∙ sym (call-done ex n (t .frames) outs flagBuffers (t .cleanNumbers) (t .cleanStores) (t .cleanBack) (t .cleanFlags) (t .undamaged) f h (clean-accepted t accepted f h) .1)
 
 pub two-flips : TwoFlips

@@ -10,23 +10,24 @@ use native.Mathlib.Omega.{arith}
 use lib.Dec.{eqb, ltb}
 use lib.Bits.{differ}
 use borrow.Author.Tests.{ltb-true, eqb-true, eqb-false, not-true, lt-ltb, eq-eqb}
-use Rattle.bits.specs.Bits.{bitOf}
+use Rattle.bits.specs.definitions.Bits.{bitOf}
 use Rattle.bits.proofs.Count.{count-some, count-pos}
-use Rattle.bch.proofs.Theorems.{two-vanish}
-use Rattle.lanes.specs.Permutation.{Lanes, Places, named, permuted}
-use Rattle.lanes.specs.Stream.{streamBit, delayed, interleaved, deinterleaved}
+use Rattle.decoder.proofs.Theorems.{two-vanish}
+use Rattle.lanes.specs.definitions.Permutation.{Lanes, Places, named, permuted}
+use Rattle.lanes.specs.definitions.Stream.{streamBit, delayed, interleaved, deinterleaved}
 use Rattle.lanes.proofs.Rows.{lt-or-le, delayed-early, delayed-at}
 use Rattle.lanes.proofs.Return.{across, across-lt, across-place, permuted-across, carried, fetched}
-use Rattle.symbols.specs.Frame.{arrived}
+use Rattle.symbols.specs.definitions.Frame.{arrived}
 use Rattle.symbols.proofs.Return.{arrived-lt}
-use Rattle.framing.specs.Receive.{broughtLanes}
-use Rattle.framing.specs.Call.{base}
+use Rattle.framing.specs.definitions.Receive.{broughtLanes}
+use Rattle.framing.specs.definitions.Call.{base}
 use Rattle.framing.proofs.Stream.{block-rule}
 use Rattle.framing.proofs.Received.{passedOn, brought-bit}
-use Rattle.demands.specs.Trial.{Trial, Accepted, flipsIn}
-use Rattle.demands.specs.ReedSolomon.{Labels, Labelled, carries, Has, CarriesExactly, heavyWords, wrongSymbol, wrongSymbols, ReedSolomonBound, Bounded, FourPairs}
+use Rattle.demands.specs.definitions.Trial.{Trial, Accepted, flipsIn}
+use Rattle.demands.specs.definitions.ReedSolomon.{Labels, Labelled, carries, Has, heavyWords, wrongSymbol, wrongSymbols}
+use Rattle.demands.specs.statements.ReedSolomon.{CarriesExactly, ReedSolomonBound, Bounded, FourPairs}
 use Rattle.demands.proofs.Trial.{differs-by}
-use Rattle.demands.proofs.Totals.{both, left, right, total-inject}
+use Rattle.demands.proofs.LaneCounts.{both, left, right, lanes-inject}
 use Rattle.demands.proofs.Labels.{slot, spans-label, one-a-word}
 
 -- bit k of symbol s stands in the lane that carries it as bit k of symbol slot s, so in word slot s / 11
@@ -199,7 +200,7 @@ module _ {ex : Places} {n : ℕ} {flips lanes room outs flagBuffers : ℕ → Li
     bound : ex 0 ≢ ex 2 → ex 1 ≢ ex 3 → Labelled n label → wrongSymbols n (t .back) (t .cleanBack) label c ≤ heavyWords ex n flips label c
     unfolding heavyWords wrongSymbols
     bound even odd L =
-        total-inject wrong (132 * n) heavy (12 * n) (across ex) (λ _ s. slot s / 11) (λ p s hp hs. its-word p s hp)
+        lanes-inject wrong (132 * n) heavy (12 * n) (across ex) (λ _ s. slot s / 11) (λ p s hp hs. its-word p s hp)
         (λ p q s u hp hq hs hu w v. one-a-word ex even odd n label L p q s u hp hq hs hu (symbol-of p s w ∙ sym (symbol-of q u v)))
 
 pub reed-solomon-bound : ReedSolomonBound

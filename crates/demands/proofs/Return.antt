@@ -1,4 +1,4 @@
--- `Return` and `OneFrame`: what is sent are code words, so that they are passedOn on as they are, and the stages undo each other.
+-- `Return` and `OneFrame`: what is sent are code words, so that they are passed on as they are, and the stages undo each other.
 -- Assumes nothing.
 use mathlib.Core.Path.{_≡_, sym, ap, ap₂, _∙_, subst}
 use mathlib.Core.Bool.{Bool, true, cond}
@@ -8,25 +8,25 @@ use native.Mathlib.Omega.{arith}
 use lib.ListN.{length, replicate, length-replicate, getD-replicate}
 use lib.Seq.{ext-getD}
 use lib.Bits.{xor-self}
-use Rattle.bits.specs.Bits.{value, bitOf, bitAt, AllBytes}
+use Rattle.bits.specs.definitions.Bits.{value, bitOf, bitAt, AllBytes}
 use Rattle.bits.proofs.Fields.{byte-field, field-is}
 use Rattle.bits.proofs.Weight.{weight, weight-zero}
-use Rattle.bch.specs.Code.{CodeWord, distance}
-use Rattle.bch.proofs.Distance.{distance-weight}
-use Rattle.bch.proofs.Theorems.{mends-two}
-use Rattle.lanes.specs.Permutation.{Places}
-use Rattle.lanes.specs.Stream.{streamBit, interleaved, deinterleaved}
+use Rattle.bch.specs.definitions.Code.{CodeWord, distance}
+use Rattle.decoder.proofs.Distance.{distance-weight}
+use Rattle.decoder.proofs.Theorems.{mends-two}
+use Rattle.lanes.specs.definitions.Permutation.{Places}
+use Rattle.lanes.specs.definitions.Stream.{streamBit, interleaved, deinterleaved}
 use Rattle.lanes.proofs.Return.{back-late, back-early, deinterleaved-cong}
-use Rattle.symbols.specs.Frame.{arrived}
-use Rattle.symbols.specs.Pilots.{locks}
+use Rattle.symbols.specs.definitions.Frame.{arrived}
+use Rattle.pilots.specs.definitions.Pilots.{locks}
 use Rattle.symbols.proofs.Return.{arrived-lt}
-use Rattle.framing.specs.Receive.{broughtLanes, receivedLanes, receivedFlags}
-use Rattle.framing.specs.Stream.{Sent, Received}
+use Rattle.framing.specs.definitions.Receive.{broughtLanes, receivedLanes, receivedFlags}
+use Rattle.framing.specs.definitions.Stream.{Sent, Received}
 use Rattle.framing.proofs.Sending.{frame-length}
 use Rattle.framing.proofs.Receiving.{all-lengths, lanes-length, lanes-bytes, flags-length}
 use Rattle.framing.proofs.Stream.{block-rule, frame-sent, sent-locks}
 use Rattle.framing.proofs.Received.{flag-at, brought-bit, store-whole, call-done, back-stream}
-use Rattle.demands.specs.Return.{Return, OneFrame}
+use Rattle.demands.specs.statements.Return.{Return, OneFrame}
 use Rattle.demands.proofs.Hit.{code-passed}
 
 -- ---- a run of sending, received as it was sent

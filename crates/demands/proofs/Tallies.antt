@@ -1,4 +1,4 @@
--- `TalliesAlike`: an entry hangs on the number answered and, where it is 0, on the flags.
+-- `TalliesAlike`: an entry depends on the number answered and, where it is 0, on the flags.
 -- Assumes nothing.
 use mathlib.Core.Path.{_≡_, refl, ap, _∙_}
 use mathlib.Core.List.{List}
@@ -8,7 +8,8 @@ use native.Mathlib.Omega.{arith}
 use borrow.Author.Tests.{ne-eqb}
 use Rattle.account.specs.declared.Account.{Account}
 use Rattle.account.specs.declared.Entry.{Entry}
-use Rattle.demands.specs.Tallies.{reported, accountAt, TalliesAlike}
+use Rattle.demands.specs.definitions.Tallies.{reported, accountAt}
+use Rattle.demands.specs.statements.Tallies.{TalliesAlike}
 use Rattle.demands.proofs.OneForAll.{one-for-all}
 
 same-entry : (x y : Account) (got r s : ℕ) (g h : List ℕ) → x ≡ y → r ≡ s → (r ≡ 0 → g ≡ h) → reported x got r g ≡ reported y got s h

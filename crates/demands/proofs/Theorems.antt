@@ -1,6 +1,6 @@
 -- The demands over streams and captures, all of them proved.
 -- Assumes nothing.
-use Rattle.demands.specs.Demands.{Demands}
+use Rattle.demands.specs.statements.Demands.{Demands}
 use Rattle.demands.proofs.Return.{return, one-frame}
 use Rattle.demands.proofs.Trial.{refused-exactly, flips-counted, trials-exist, undamaged-exist}
 use Rattle.demands.proofs.OneForAll.{one-for-all, two-flips}

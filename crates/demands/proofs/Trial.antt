@@ -8,22 +8,23 @@ use Prim.Native.Nat.{ℕ, zero, suc, _+_, _*_, _/_, _%_, _<_}
 use native.Mathlib.Omega.{arith}
 use lib.ListN.{length, getD, replicate, length-replicate}
 use lib.Bits.{differ}
-use Rattle.bch.specs.Code.{CodeWord}
-use Rattle.lanes.specs.Permutation.{Lanes, Places}
-use Rattle.lanes.specs.Interleaver.{wovenStore}
-use Rattle.lanes.specs.Stream.{streamBit, deinterleaved}
+use Rattle.bch.specs.definitions.Code.{CodeWord}
+use Rattle.lanes.specs.definitions.Permutation.{Lanes, Places}
+use Rattle.lanes.specs.definitions.Interleaver.{interleavedStore}
+use Rattle.lanes.specs.definitions.Stream.{streamBit, deinterleaved}
 use Rattle.lanes.proofs.Return.{deinterleaved-cong, deinterleaved-zip}
-use Rattle.symbols.specs.Frame.{arrived}
-use Rattle.symbols.specs.Pilots.{pilots}
-use Rattle.framing.specs.Call.{unless, after}
-use Rattle.framing.specs.Send.{sentFrame, sendNumber}
-use Rattle.framing.specs.Receive.{broughtLanes, receivedLanes, receivedStore, receivedFlags, receiveNumber}
-use Rattle.framing.specs.Stream.{Sent, Received}
+use Rattle.symbols.specs.definitions.Frame.{arrived}
+use Rattle.pilots.specs.definitions.Table5.{pilots}
+use Rattle.framing.specs.definitions.Call.{unless, after}
+use Rattle.framing.specs.definitions.Send.{sentFrame, sendNumber}
+use Rattle.framing.specs.definitions.Receive.{broughtLanes, receivedLanes, receivedStore, receivedFlags, receiveNumber}
+use Rattle.framing.specs.definitions.Stream.{Sent, Received}
 use Rattle.framing.proofs.Receiving.{whole, lent}
 use Rattle.framing.proofs.Stream.{frame-sent, sent-pilot}
 use Rattle.framing.proofs.Received.{store-whole, call-done, back-stream}
-use Rattle.demands.specs.Trial.{hit, Trial, Accepted, flipsIn, FlipsCounted, RefusedExactly, TrialsExist}
-use Rattle.demands.specs.Return.{UndamagedExist}
+use Rattle.demands.specs.definitions.Trial.{hit, Trial, Accepted, flipsIn}
+use Rattle.demands.specs.statements.Trial.{FlipsCounted, RefusedExactly, TrialsExist}
+use Rattle.demands.specs.statements.Return.{UndamagedExist}
 use Rattle.demands.proofs.Hit.{hit-length, hit-locks, hit-distance, flags-hit, brought-hit}
 use Rattle.demands.proofs.Return.{sent-words, clean-done}
 
@@ -78,7 +79,7 @@ flips-counted ex n flips lanes room outs flagBuffers t p w hp hw = hit-distance 
 module _ (ex : Places) (n : ℕ) (flips lanes room outs flagBuffers : ℕ → List ℕ) where
   senderStores : ℕ → List ℕ
   senderStores zero = replicate 2880 0
-  senderStores (suc f) = after (sendNumber (lanes f) (senderStores f) (room f)) (wovenStore ex (lanes f) (senderStores f)) (senderStores f)
+  senderStores (suc f) = after (sendNumber (lanes f) (senderStores f) (room f)) (interleavedStore ex (lanes f) (senderStores f)) (senderStores f)
 
   sentFrames : ℕ → List ℕ
   sentFrames f = after (sendNumber (lanes f) (senderStores f) (room f)) (sentFrame ex (lanes f) (senderStores f)) (room f)

@@ -12,24 +12,25 @@ use lib.Dec.{leb}
 use lib.ListN.{length, getD, take, drop, length-append}
 use lib.Seq.{take-append-seam, take-length, drop-at}
 use borrow.Author.Tests.{le-leb, lt-leb}
-use Rattle.bits.specs.Bits.{tabulate, AllBytes}
-use Rattle.symbols.specs.Pilots.{locks}
+use Rattle.bits.specs.definitions.Bits.{tabulate, AllBytes}
+use Rattle.pilots.specs.definitions.Pilots.{locks}
 use Rattle.account.specs.declared.Verdict.{Verdict}
 use Rattle.account.specs.declared.Verdict.the-variants.{NotMeasured, Pass, Fail}
-use Rattle.account.specs.Account.{frameLimit, verdict, verdictNumber}
-use Rattle.account.proofs.Judged.{MeasuredNumbers, measured-by, judged, passed, failed}
+use Rattle.account.specs.definitions.Account.{frameLimit, verdict, verdictNumber}
+use Rattle.account.proofs.VerdictMeaning.{MeasuredNumbers, measured-by, judged, passed, failed}
 use Rattle.capture.specs.declared.Read.{Read}
 use Rattle.capture.specs.declared.Read.the-variants.{End, Refused, Order, Frame}
-use Rattle.capture.specs.Capture.{layout, readAt, shifted, symbolsAt, orderRecord, frameRecord, inTurn, frameRecords}
+use Rattle.capture.specs.definitions.Capture.{layout, readAt, shifted, symbolsAt, orderRecord, frameRecord, frameNumber, frameRecords}
 use Rattle.capture.proofs.Cases.{at-end}
 use Rattle.capture.proofs.Local.{reads-from-here}
 use Rattle.capture.proofs.Records.{records}
 use Rattle.bench.specs.declared.Run.{Run}
-use Rattle.bench.specs.Run.{State, fresh, stopped, stepped, goesOn, verdictOf}
-use Rattle.bench.specs.Walk.{examined, pieces, through}
-use Rattle.bench.specs.Report.{ascii, words, text, writtenBytes, written}
+use Rattle.bench.specs.definitions.Run.{State, fresh, stopped, stepped, goesOn, verdictOf}
+use Rattle.bench.specs.definitions.Walk.{examined, pieces, through}
+use Rattle.report.specs.definitions.Report.{ascii, verdictName, text, writtenBytes, written}
 use Rattle.bench.proofs.Walk.{pieces-alike, none-left}
-use Rattle.demands.specs.Verdict.{Measured, measuredRun, flaggedWords, Stepwise, Examination, Line, PassExactly, FailExactly, NotMeasuredExactly, ProgramSays, MeasuredOnce, ExaminationsExist, Arrived, ArrivedAlways, NeverPass, AllCounted, AlwaysCounted}
+use Rattle.demands.specs.definitions.Verdict.{Measured, measuredRun, flaggedWords, Stepwise, Examination, Line, Arrived}
+use Rattle.demands.specs.statements.Verdict.{PassExactly, FailExactly, NotMeasuredExactly, ProgramSays, MeasuredOnce, ExaminationsExist, ArrivedAlways, NeverPass, AllCounted, AlwaysCounted}
 use Rattle.demands.proofs.Measured.{all-words, walked-counted}
 use Rattle.demands.proofs.Walked.{framePlace, framesIn, found, whole-symbols, ends-inside, record-there, up-to, measured-run, measured-back}
 use Rattle.demands.proofs.Lines.{text-lines, verdict-said}
@@ -117,7 +118,7 @@ steps-exist s =
 -- ---- the report
 
 -- a line that says a verdict stands in a run's text exactly if it is the run's verdict
-module _ (r : Run) (line : String) (v : Verdict) (says : ascii line ≡ ascii "verdict " ++ words v) where
+module _ (r : Run) (line : String) (v : Verdict) (says : ascii line ≡ ascii "verdict " ++ verdictName v) where
   line-said : Line line (text r) → verdictOf r ≡ v
   line-said L =
       verdict-said r v (L .place) (subst (λ (ls : List (List ℕ)). L .place < length ls) (text-lines r) (L .inside))
@@ -128,7 +129,7 @@ module _ (r : Run) (line : String) (v : Verdict) (says : ascii line ≡ ascii "v
       record {
         place = 7;
         inside = rw (text-lines r) (omega arith);
-        is = ap (λ (ls : List (List ℕ)). getD ls 7 []) (text-lines r) ∙ ap (λ (w : Verdict). ascii "verdict " ++ words w) e ∙ sym says;
+        is = ap (λ (ls : List (List ℕ)). getD ls 7 []) (text-lines r) ∙ ap (λ (w : Verdict). ascii "verdict " ++ verdictName w) e ∙ sym says;
       }
 
 run-is : (s : List ℕ) (r : Run) → (r ≡ examined s .run) ⊎ Stepwise s r → r ≡ examined s .run
@@ -148,7 +149,7 @@ module _ (s report : List ℕ) (R : Examination s report) where
       whole true e = take-append-seam (text (R .run)) (drop (length (text (R .run))) (R .buffer))
       whole false e = absurd (false≢true e)
 
-  module _ (line : String) (v : Verdict) (says : ascii line ≡ ascii "verdict " ++ words v) where
+  module _ (line : String) (v : Verdict) (says : ascii line ≡ ascii "verdict " ++ verdictName v) where
     said : Line line report → verdictOf (examined s .run) ≡ v
     said L = line-said (examined s .run) line v says (subst (Line line) report-is L)
 
@@ -160,15 +161,15 @@ module _ (s report : List ℕ) (R : Examination s report) where
     carried means = (λ L. means .0 (said L), λ x. stands (means .1 x))
 
 pub pass-exactly : PassExactly
-unfolding words tabulate
+unfolding verdictName tabulate
 pass-exactly s report B R = carried s report R "verdict PASS" Pass refl (passes s B)
 
 pub fail-exactly : FailExactly
-unfolding words tabulate
+unfolding verdictName tabulate
 fail-exactly s report B R = carried s report R "verdict FAIL" Fail refl (fails s B)
 
 pub not-measured-exactly : NotMeasuredExactly
-unfolding words tabulate
+unfolding verdictName tabulate
 not-measured-exactly s report B R = carried s report R "verdict NOT MEASURED" NotMeasured refl (unmeasured s B)
 
 -- a run that was stopped
@@ -177,7 +178,7 @@ unfolding verdictOf goesOn verdict
 stopped-unmeasured r = refl
 
 pub stopped-says : (r : Run) → Line "verdict NOT MEASURED" (text (stopped r))
-unfolding words tabulate
+unfolding verdictName tabulate
 stopped-says r = line-stands (stopped r) "verdict NOT MEASURED" NotMeasured refl (stopped-unmeasured r)
 
 -- the report in a buffer that holds it
@@ -187,7 +188,7 @@ examination s buffer h =
     record { run = examined s .run; walk = inl refl; buffer = buffer; out = written (examined s .run) buffer; bytes = writtenBytes (examined s .run) buffer; holds = h; answered = refl; left = refl; printed = refl }
 
 pub program-says : ProgramSays
-unfolding words tabulate
+unfolding verdictName tabulate
 program-says s =
     let r = examined s .run in
     let e = examination s (text r) (omega arith) in
@@ -294,13 +295,13 @@ of-measured s m =
       asked = m .asked;
       allowed = m .allowed;
       n = m .asked;
-      numbers = inTurn (m .start);
+      numbers = frameNumber (m .start);
       frames = m .frames;
       rest = [];
       small = m .numbers;
       whole = λ k h. (omega arith, m .whole k h);
       noFrame = λ number from next e. false≢true (ap isFrame (at-end [] 0 (omega arith) ∙ e));
-      capture = m .capture ∙ ap (λ (l : List ℕ). orderRecord (m .start) (m .asked) (m .allowed) ++ l) (sym (append-nil (frameRecords (inTurn (m .start)) (m .frames) (m .asked))));
+      capture = m .capture ∙ ap (λ (l : List ℕ). orderRecord (m .start) (m .asked) (m .allowed) ++ l) (sym (append-nil (frameRecords (frameNumber (m .start)) (m .frames) (m .asked))));
     }
 
 pub measured-once : MeasuredOnce
@@ -325,9 +326,9 @@ module _ (s report : List ℕ) (B : AllBytes s) (E : Examination s report) (a : 
   asked-is : a .asked ≡ m .asked
   asked-is = ap (λ (t : ℕ × ℕ × ℕ). t .1) (same-order s a (of-measured s m))
 
-  in-its-turn : (k : ℕ) → k < a .n → a .numbers k ≡ inTurn (a .start) k
-  in-its-turn k h =
-      same-frame s a (of-measured s m) k h (let e = all-came in omega arith) .0 ∙ ap (λ (x : ℕ). inTurn x k) (sym (ap (λ (t : ℕ × ℕ × ℕ). t .0) (same-order s a (of-measured s m))))
+  number-due : (k : ℕ) → k < a .n → a .numbers k ≡ frameNumber (a .start) k
+  number-due k h =
+      same-frame s a (of-measured s m) k h (let e = all-came in omega arith) .0 ∙ ap (λ (x : ℕ). frameNumber x k) (sym (ap (λ (t : ℕ × ℕ × ℕ). t .0) (same-order s a (of-measured s m))))
 
   nothing-more : a .rest ≡ []
   nothing-more = none-left 0 (a .rest) (let l = length-there s a in let k = length-there s (of-measured s m) in let e = all-came in omega arith)
@@ -339,15 +340,15 @@ module _ (s report : List ℕ) (B : AllBytes s) (E : Examination s report) (a : 
   few = let w = m .within in let e = all-came in omega arith
 
 -- numbers in their turn differ
-turns-differ : (start j k : ℕ) → j < k → k < 2 ^ 32 → inTurn start j ≢ inTurn start k
-turns-differ start j k h l e = omega arith
+numbers-differ : (start j k : ℕ) → j < k → k < 2 ^ 32 → frameNumber start j ≢ frameNumber start k
+numbers-differ start j k h l e = omega arith
 
 pub never-pass : NeverPass
 never-pass =
     record {
-      missing = λ s report B E a i h none L. none i (let e = all-came s report B E a L in let f = asked-is s report B E a L in omega arith) (in-its-turn s report B E a L i (let e = all-came s report B E a L in let f = asked-is s report B E a L in omega arith));
-      doubled = λ s report B E a j k h l e L. turns-differ (a .start) j k h (let f = few s report B E a L in omega arith) (sym (in-its-turn s report B E a L j (omega arith)) ∙ e ∙ in-its-turn s report B E a L k l);
-      outOfOrder = λ s report B E a k h n L. n (in-its-turn s report B E a L k h);
+      missing = λ s report B E a i h none L. none i (let e = all-came s report B E a L in let f = asked-is s report B E a L in omega arith) (number-due s report B E a L i (let e = all-came s report B E a L in let f = asked-is s report B E a L in omega arith));
+      doubled = λ s report B E a j k h l e L. numbers-differ (a .start) j k h (let f = few s report B E a L in omega arith) (sym (number-due s report B E a L j (omega arith)) ∙ e ∙ number-due s report B E a L k l);
+      outOfOrder = λ s report B E a k h n L. n (number-due s report B E a L k h);
       cut = λ s report B E a n L. n (nothing-more s report B E a L);
       unlocked = λ s report B E a k h n L. false≢true (sym n ∙ each-locks s report B E a L k h);
     }

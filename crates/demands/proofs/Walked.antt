@@ -9,22 +9,22 @@ use native.Mathlib.Decide.{decLt}
 use native.Mathlib.Omega.{arith}
 use lib.ListN.{length, drop, replicate, length-append, length-drop}
 use lib.Seq.{drop-drop, getD-drop}
-use Rattle.bits.specs.Bits.{AllBytes}
-use Rattle.symbols.specs.Pilots.{locks}
-use Rattle.account.specs.Account.{frameLimit, noWords, measured}
-use Rattle.account.proofs.Judged.{measured-means}
+use Rattle.bits.specs.definitions.Bits.{AllBytes}
+use Rattle.pilots.specs.definitions.Pilots.{locks}
+use Rattle.account.specs.definitions.Account.{frameLimit, noWords, measured}
+use Rattle.account.proofs.VerdictMeaning.{measured-means}
 use Rattle.capture.specs.declared.Read.{Read}
 use Rattle.capture.specs.declared.Read.the-variants.{End, Refused, Order, Frame}
-use Rattle.capture.specs.Capture.{layout, readAt, nextOf, shifted, symbolsAt, orderRecord, frameRecord, inTurn, frameRecords}
+use Rattle.capture.specs.definitions.Capture.{layout, readAt, nextOf, shifted, symbolsAt, orderRecord, frameRecord, frameNumber, frameRecords}
 use Rattle.capture.proofs.Cases.{at-end}
 use Rattle.capture.proofs.Found.{frame-found}
 use Rattle.capture.proofs.Local.{reads-from-here, symbols-here}
 use Rattle.capture.proofs.Records.{records}
 use Rattle.bench.specs.declared.Phase.the-variants.{Going, Stopped}
-use Rattle.bench.specs.Run.{State, fresh, framed, orderCame, frameCame, cameAs, goesOn}
-use Rattle.bench.specs.Walk.{walked, examined}
+use Rattle.bench.specs.definitions.Run.{State, fresh, framed, orderCame, frameCame, cameAs, goesOn}
+use Rattle.bench.specs.definitions.Walk.{walked, examined}
 use Rattle.bench.proofs.Walk.{walked-one, walked-end, end, none-left, refused-stops}
-use Rattle.demands.specs.Verdict.{wordsIn, Measured, measuredRun}
+use Rattle.demands.specs.definitions.Verdict.{wordsIn, Measured, measuredRun}
 use Rattle.demands.proofs.Measured.{storeAfter, allAccepted, after, framed-next, Lost, walked-lost, lost-never, next-or-lost}
 
 -- where frame k of a measured capture stands
@@ -36,7 +36,7 @@ module _ (start asked allowed : ℕ) (frames : ℕ → List ℕ) (h : start < 2 
   pub ordered-first : (s : List ℕ) (next : ℕ) → cameAs (Order start asked allowed next) fresh s ≡ after start asked allowed frames 0
   unfolding cameAs orderCame storeAfter wordsIn
   ordered-first s next =
-      let e : start ≡ inTurn start 0 = omega arith in
+      let e : start ≡ frameNumber start 0 = omega arith in
       λ i. record { run = record { phase = Going; asked = asked; allowed = allowed; account = record { expected = e i; accepted = 0; missing = 0; words = noWords } }; store = replicate 2880 0 }
 
 -- ---- over a measured capture
@@ -44,14 +44,14 @@ module _ (start asked allowed : ℕ) (frames : ℕ → List ℕ) (h : start < 2 
 module _ (start asked allowed : ℕ) (frames : ℕ → List ℕ) (hs : start < 2 ^ 32) (ha : asked < 2 ^ 32) (hw : allowed < 2 ^ 32) (limit : asked ≤ frameLimit)
     (whole : (k : ℕ) → k < asked → length (frames k) ≡ layout .symbols) (locked : (k : ℕ) → k < asked → locks (frames k) 0 ≡ true) where
   abbrev bytes : List ℕ
-  bytes = orderRecord start asked allowed ++ (frameRecords (inTurn start) frames asked ++ [])
+  bytes = orderRecord start asked allowed ++ (frameRecords (frameNumber start) frames asked ++ [])
 
   bytes-length : length bytes ≡ framePlace asked
   bytes-length =
-      length-append (orderRecord start asked allowed) (frameRecords (inTurn start) frames asked ++ [])
+      length-append (orderRecord start asked allowed) (frameRecords (frameNumber start) frames asked ++ [])
       ∙ (let o = records .recordLengths .0 start asked allowed in
-      let f = records .recordLengths .2 asked (inTurn start) frames whole in
-      let n : length (frameRecords (inTurn start) frames asked ++ []) ≡ length (frameRecords (inTurn start) frames asked) + 0 = length-append (frameRecords (inTurn start) frames asked) [] in omega arith)
+      let f = records .recordLengths .2 asked (frameNumber start) frames whole in
+      let n : length (frameRecords (frameNumber start) frames asked ++ []) ≡ length (frameRecords (frameNumber start) frames asked) + 0 = length-append (frameRecords (frameNumber start) frames asked) [] in omega arith)
 
   walks-on : (j n k : ℕ) → k + j ≡ asked → j ≤ n → walked n bytes (framePlace k) (after start asked allowed frames k) ≡ after start asked allowed frames asked
   unfolding cameAs frameCame
@@ -60,10 +60,10 @@ module _ (start asked allowed : ℕ) (frames : ℕ → List ℕ) (hs : start < 2
       walked-end n bytes (framePlace k) (after start asked allowed frames k) (sym (at-end bytes (framePlace k) (let l = bytes-length in omega arith))) ∙ ap (after start asked allowed frames) q
   walks-on (suc j) zero k e h = absurd (omega arith)
   walks-on (suc j) (suc n) k e h =
-      let R = records .framesRead asked (inTurn start) frames (orderRecord start asked allowed) [] (λ i l. (omega arith, whole i l)) k (framePlace k) (omega arith) (let o = records .recordLengths .0 start asked allowed in omega arith) in
+      let R = records .framesRead asked (frameNumber start) frames (orderRecord start asked allowed) [] (λ i l. (omega arith, whole i l)) k (framePlace k) (omega arith) (let o = records .recordLengths .0 start asked allowed in omega arith) in
       let next : framePlace k + layout .frameBytes ≡ framePlace (suc k) = omega arith in
       walked-one n bytes (framePlace k) (after start asked allowed frames k) _ (R .0)
-      ∙ (λ i. walked n bytes (next i) ((ap (framed (after start asked allowed frames k) (inTurn start k)) (R .1) ∙ framed-next start asked allowed frames k (omega arith) (locked k (omega arith))) i))
+      ∙ (λ i. walked n bytes (next i) ((ap (framed (after start asked allowed frames k) (frameNumber start k)) (R .1) ∙ framed-next start asked allowed frames k (omega arith) (locked k (omega arith))) i))
       ∙ walks-on j n (suc k) (omega arith) (omega arith)
 
   measured-state : examined bytes ≡ after start asked allowed frames asked
@@ -71,14 +71,14 @@ module _ (start asked allowed : ℕ) (frames : ℕ → List ℕ) (hs : start < 2
   measured-state =
       let l : length bytes ≡ suc (layout .orderBytes - 1 + asked * layout .frameBytes) = bytes-length ∙ (omega arith) in
       ap (λ (m : ℕ). walked m bytes 0 fresh) l
-      ∙ walked-one (layout .orderBytes - 1 + asked * layout .frameBytes) bytes 0 fresh _ (records .orderReads start asked allowed (frameRecords (inTurn start) frames asked ++ []) hs ha hw)
+      ∙ walked-one (layout .orderBytes - 1 + asked * layout .frameBytes) bytes 0 fresh _ (records .orderReads start asked allowed (frameRecords (frameNumber start) frames asked ++ []) hs ha hw)
       ∙ ap (walked (layout .orderBytes - 1 + asked * layout .frameBytes) bytes (layout .orderBytes)) (ordered-first start asked allowed frames hs bytes (layout .orderBytes))
       ∙ walks-on asked (layout .orderBytes - 1 + asked * layout .frameBytes) 0 (omega arith) (omega arith)
 
 -- any capture that was measured
 pub measured-run : (s : List ℕ) (m : Measured s) → examined s .run ≡ measuredRun m
 measured-run s m =
-    ap (λ (x : List ℕ). examined x .run) (m .capture ∙ ap (λ (l : List ℕ). orderRecord (m .start) (m .asked) (m .allowed) ++ l) (sym (append-nil (frameRecords (inTurn (m .start)) (m .frames) (m .asked)))))
+    ap (λ (x : List ℕ). examined x .run) (m .capture ∙ ap (λ (l : List ℕ). orderRecord (m .start) (m .asked) (m .allowed) ++ l) (sym (append-nil (frameRecords (frameNumber (m .start)) (m .frames) (m .asked)))))
     ∙ ap (λ (st : State). st .run)
     (measured-state (m .start) (m .asked) (m .allowed) (m .frames) (m .numbers .0) (m .numbers .1) (m .numbers .2) (m .within) (m .whole) (m .locked))
 
@@ -123,7 +123,7 @@ record SoFar (s : List ℕ) (start asked allowed k : ℕ) : Type 0 where
   pub within : k ≤ frameLimit
   pub whole : (j : ℕ) → j < k → length (framesIn s j) ≡ layout .symbols
   pub locked : (j : ℕ) → j < k → locks (framesIn s j) 0 ≡ true
-  pub capture : s ≡ orderRecord start asked allowed ++ (frameRecords (inTurn start) (framesIn s) k ++ drop (framePlace k) s)
+  pub capture : s ≡ orderRecord start asked allowed ++ (frameRecords (frameNumber start) (framesIn s) k ++ drop (framePlace k) s)
 
 -- what holds of the first k and of the next holds of one more
 pub up-to : {P : ℕ → Type 0} (k : ℕ) → ((j : ℕ) → j < k → P j) → P k → (j : ℕ) → j < suc k → P j
@@ -162,13 +162,13 @@ module _ (s : List ℕ) (B : AllBytes s) (start asked allowed : ℕ) (hs : start
         capture =
             F .capture
             ∙ ap (λ (l : List ℕ). orderRecord start asked allowed ++ l)
-            (ap (λ (l : List ℕ). frameRecords (inTurn start) (framesIn s) k ++ l) (none-left (framePlace k) s h)
-            ∙ append-nil (frameRecords (inTurn start) (framesIn s) k) ∙ ap (frameRecords (inTurn start) (framesIn s)) all);
+            (ap (λ (l : List ℕ). frameRecords (frameNumber start) (framesIn s) k ++ l) (none-left (framePlace k) s h)
+            ∙ append-nil (frameRecords (frameNumber start) (framesIn s) k) ∙ ap (frameRecords (frameNumber start) (framesIn s)) all);
       }
 
   -- one frame more
   module _ (k number from next : ℕ) (F : SoFar s start asked allowed k) (read : readAt (drop (framePlace k) s) 0 ≡ Frame number from next) where
-    one-more : number ≡ inTurn start k → locks (framesIn s k) 0 ≡ true → k < frameLimit → SoFar s start asked allowed (suc k)
+    one-more : number ≡ frameNumber start k → locks (framesIn s k) 0 ≡ true → k < frameLimit → SoFar s start asked allowed (suc k)
     unfolding frameRecords
     one-more n l h =
         record {
@@ -178,8 +178,8 @@ module _ (s : List ℕ) (B : AllBytes s) (start asked allowed : ℕ) (hs : start
           capture =
               F .capture
               ∙ ap (λ (x : List ℕ). orderRecord start asked allowed ++ x)
-              (ap (λ (x : List ℕ). frameRecords (inTurn start) (framesIn s) k ++ x) (record-there s B k number from next read ∙ ap (λ (x : ℕ). frameRecord x (framesIn s k) ++ drop (framePlace (suc k)) s) n)
-              ∙ sym (append-assoc (frameRecords (inTurn start) (framesIn s) k) (frameRecord (inTurn start k) (framesIn s k)) (drop (framePlace (suc k)) s)));
+              (ap (λ (x : List ℕ). frameRecords (frameNumber start) (framesIn s) k ++ x) (record-there s B k number from next read ∙ ap (λ (x : ℕ). frameRecord x (framesIn s k) ++ drop (framePlace (suc k)) s) n)
+              ∙ sym (append-assoc (frameRecords (frameNumber start) (framesIn s) k) (frameRecord (frameNumber start k) (framesIn s k)) (drop (framePlace (suc k)) s)));
         }
 
   back : (n k : ℕ) → length s ≤ framePlace k + n → SoFar s start asked allowed k → Comes s (walked n s (framePlace k) (after start asked allowed (framesIn s) k))
@@ -197,7 +197,7 @@ module _ (s : List ℕ) (B : AllBytes s) (start asked allowed : ℕ) (hs : start
       here r q = walked-one n s (framePlace k) st (shifted (framePlace k) r) (there r q)
 
       frame : (number from next : ℕ) → readAt (drop (framePlace k) s) 0 ≡ Frame number from next
-          → Lost (framed st number (framesIn s k)) ⊎ ((number ≡ inTurn start k) × (locks (framesIn s k) 0 ≡ true) × (k < frameLimit))
+          → Lost (framed st number (framesIn s k)) ⊎ ((number ≡ frameNumber start k) × (locks (framesIn s k) 0 ≡ true) × (k < frameLimit))
           → (SoFar s start asked allowed (suc k) → Comes s (walked n s (framePlace (suc k)) (after start asked allowed (framesIn s) (suc k))))
           → Comes s (walked n s (framePlace k + next) (framed st number (symbolsAt s (framePlace k + from))))
       frame number from next q (inl l) IH =

@@ -1,7 +1,2 @@
-pub mod Return
-pub mod Trial
-pub mod OneForAll
-pub mod Tallies
-pub mod ReedSolomon
-pub mod Verdict
-pub mod Demands
+pub mod definitions
+pub mod statements

@@ -8,7 +8,7 @@ use native.Mathlib.Omega.{arith}
 use lib.ListN.{length, take, drop, take-append-drop}
 use lib.Seq.{take-append-le, length-take-le, take-add}
 use borrow.Rule.Slice.PartMut.{putMid, postOf}
-use Rattle.capture.specs.Capture.{layout, wanted}
+use Rattle.capture.specs.definitions.Capture.{layout, wanted}
 use Rattle.capture.proofs.Local.{wanted-bounds, wanted-alike}
 
 -- what stands before the part stays

@@ -9,16 +9,16 @@ use native.Mathlib.Decide.{decLt}
 use native.Mathlib.Omega.{arith}
 use lib.ListN.{length, getD, take, drop, replicate, List·getD-append, List·getD-eq-default}
 use lib.Seq.{length-take-le, getD-append-add}
-use Rattle.bits.specs.Bits.{AllBytes}
-use Rattle.capture.specs.Capture.{wanted}
+use Rattle.bits.specs.definitions.Bits.{AllBytes}
+use Rattle.capture.specs.definitions.Capture.{wanted}
 use Rattle.bench.specs.declared.Run.{Run}
 use Rattle.bench.specs.declared.Phase.{Phase}
 use Rattle.bench.specs.declared.Phase.the-variants.{Stopped}
-use Rattle.bench.specs.Run.{State, begun, stopped, isStopped, stepped}
-use Rattle.bench.specs.Walk.{examined, followed}
+use Rattle.bench.specs.definitions.Run.{State, begun, stopped, isStopped, stepped}
+use Rattle.bench.specs.definitions.Walk.{examined, followed}
 use Rattle.examine.specs.declared.Came.{Came}
 use Rattle.bench.proofs.Walk.{end, Onward, onward-starts, onward-ends, onward-last, onward-next, short-stops}
-use Rattle.bench.proofs.Left.{leftOf, step-less}
+use Rattle.bench.proofs.Remaining.{remainingOf, step-less}
 
 -- the bytes read so far, and that the state is what they come to; while the run goes on, whatever may follow
 pub record Reading (st : State) (going : Bool) : Type 0 where
@@ -95,7 +95,7 @@ module _ (st : State) (going : Bool) (R : Reading st going) (on : going ≡ true
             full (yes h) = absurd (n (ap (λ (x : State). x .run .phase) step ∙ short-stops st piece (let l = piece-length in omega arith) h))
             full (no h) = let c = piece-cut in omega arith
 
-    pub reading-less : leftOf (new .run) < leftOf (st .run)
+    pub reading-less : remainingOf (new .run) < remainingOf (st .run)
     reading-less =
-        subst (λ (x : State). leftOf (x .run) < leftOf (st .run)) (sym step)
+        subst (λ (x : State). remainingOf (x .run) < remainingOf (st .run)) (sym step)
         (step-less st piece (λ z. let h = end piece 0 z in let l = piece-length in some (omega arith)) (goes (st .run .phase) (off (isStopped (st .run .phase)) (sym (R .stops) ∙ on))))

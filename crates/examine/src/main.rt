@@ -4,11 +4,11 @@ ghost use mathlib.Core.Bool.{true, false};
 ghost use mathlib.Core.List.{List};
 ghost use Prim.Native.Nat.{ℕ, _+_, _<_, _≤_};
 ghost use lib.ListN.{length, take};
-ghost use Rattle.bits.specs.Bits.{AllBytes};
-ghost use Rattle.capture.specs.Capture.{layout, wanted};
-ghost use Rattle.bench.specs.Run.{stopped, stepped};
-ghost use Rattle.bench.specs.Walk.{followed};
-ghost use Rattle.bench.specs.Report.{text, longest};
+ghost use Rattle.bits.specs.definitions.Bits.{AllBytes};
+ghost use Rattle.capture.specs.definitions.Capture.{layout, wanted};
+ghost use Rattle.bench.specs.definitions.Run.{stopped, stepped};
+ghost use Rattle.bench.specs.definitions.Walk.{followed};
+ghost use Rattle.report.specs.definitions.Report.{text, longest};
 
 // Up to which place a buffer was filled, and whether a read failed: that is no end of the input.
 struct Filled {
@@ -134,11 +134,11 @@ fn render(run: bench::Run, out: &mut [u8]) -> usize
     requires { ⌜ longest ≤ length (now out) ⌝ }
     ensures { λ r. ⌜ (r ≤ length (now (out .exit))) × (take r (now (out .exit)) ≡ text run) ⌝ }
 {
-    bench::report(run, out)
+    report::report(run, out)
 }
 
 fn print(run: bench::Run) -> bool {
-    let mut out = [0u8; bench::LONGEST];
+    let mut out = [0u8; report::LONGEST];
     let n = render(run, &mut out);
     io::write_all(libc::STDOUT_FILENO, &out[0..n])
 }

@@ -7,7 +7,7 @@ use native.Mathlib.Decide.{ℕ-discrete}
 use native.Mathlib.Omega.{arith}
 use lib.ListN.{length}
 use borrow.Author.Tests.{eq-eqb, ne-eqb}
-use Rattle.framing.specs.Call.{unless, after}
+use Rattle.framing.specs.definitions.Call.{unless, after}
 
 pub passed : (n : ℕ) (s : List ℕ) (r t : ℕ) → length s ≡ n → unless n s r t ≡ t
 passed n s r t e = rw (eq-eqb (length s) n e) refl

@@ -7,16 +7,16 @@ use mathlib.Core.List.{List}
 use Prim.Native.Nat.{ℕ, zero, suc, _/_, _%_, _<_}
 use native.Mathlib.Omega.{arith}
 use lib.ListN.{length, replicate, length-replicate, getD-replicate}
-use Rattle.bits.specs.Bits.{bitOf, bitAt}
-use Rattle.lanes.specs.Permutation.{named, permuted, lanesOf}
-use Rattle.lanes.specs.Interleaver.{sender, wovenStore, storeBit}
-use Rattle.lanes.specs.Stream.{streamBit, delayed, interleaved, deinterleaved}
+use Rattle.bits.specs.definitions.Bits.{bitOf, bitAt}
+use Rattle.lanes.specs.definitions.Permutation.{named, permuted, lanesOf}
+use Rattle.lanes.specs.definitions.Interleaver.{sender, interleavedStore, storeBit}
+use Rattle.lanes.specs.definitions.Stream.{streamBit, delayed, interleaved, deinterleaved}
 use Rattle.lanes.proofs.Bytewise.{permuted-lt, lanes-lt}
 use Rattle.lanes.proofs.Stream.{stored-bit}
-use Rattle.symbols.specs.Frame.{arrived}
-use Rattle.framing.specs.Call.{base}
-use Rattle.framing.specs.Send.{sentFrame, Sends}
-use Rattle.framing.specs.Receive.{receiveNumber, Receives}
+use Rattle.symbols.specs.definitions.Frame.{arrived}
+use Rattle.framing.specs.definitions.Call.{base}
+use Rattle.framing.specs.definitions.Send.{sentFrame, Sends}
+use Rattle.framing.specs.definitions.Receive.{receiveNumber, Receives}
 use Rattle.framing.proofs.Sending.{frame-length, done}
 use Rattle.framing.proofs.Receiving.{all-lengths}
 use Rattle.framing.proofs.Stream.{block-rule, sent-locks}
@@ -62,12 +62,12 @@ constant-frame c s s′ C D =
 
 -- a store never written: the newest block of row 1 is block 31 of the lane
 pub store-unwritten : (r : ℕ) (o : List ℕ) → Sends base (filled 255) fresh room r fresh o → ⊥
-unfolding bitAt bitOf wovenStore storeBit permuted named
+unfolding bitAt bitOf interleavedStore storeBit permuted named
 store-unwritten r o C =
     let none : bitAt fresh 0 ≡ 0 = ap (λ (v : ℕ). v / 128 % 2) (getD-replicate 2880 0 0 0 (omega arith)) in
     let all : bitAt (filled 255) 1240 ≡ 1 = ap (λ (v : ℕ). v / 128 % 2) (getD-replicate 5280 155 255 0 (omega arith)) in
-    let kept : fresh ≡ wovenStore base (filled 255) fresh = done base (filled 255) fresh room r fresh o (long 5280 255) (long 2880 0) (long 6144 0) C .1 in
-    let first : bitAt (wovenStore base (filled 255) fresh) 0 ≡ bitAt (filled 255) 1240 = stored-bit sender fresh (permuted base (lanesOf (filled 255))) (permuted-lt base (lanesOf (filled 255)) (lanes-lt (filled 255))) 0 0 (omega arith) (omega arith) in
+    let kept : fresh ≡ interleavedStore base (filled 255) fresh = done base (filled 255) fresh room r fresh o (long 5280 255) (long 2880 0) (long 6144 0) C .1 in
+    let first : bitAt (interleavedStore base (filled 255) fresh) 0 ≡ bitAt (filled 255) 1240 = stored-bit sender fresh (permuted base (lanesOf (filled 255))) (permuted-lt base (lanesOf (filled 255)) (lanes-lt (filled 255))) 0 0 (omega arith) (omega arith) in
     let e : _≡_ {A = ℕ} 0 1 = sym none ∙ ap (λ (s : List ℕ). bitAt s 0) kept ∙ first ∙ all in
     omega arith
 

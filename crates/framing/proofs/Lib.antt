@@ -3,6 +3,6 @@ pub mod Sending
 pub mod Receiving
 pub mod Stream
 pub mod Received
-pub mod Bench
+pub mod Figures
 pub mod Determined
 pub mod Empty

@@ -7,28 +7,28 @@ use Prim.Native.Nat.{ℕ, zero, suc, _+_, _*_, _/_, _%_, _^_, _<_, _≤_}
 use native.Mathlib.Omega.{arith}
 use lib.Dec.{eqb}
 use lib.ListN.{length, getD, length-replicate}
-use Rattle.bits.specs.Bits.{bitOf}
-use Rattle.bits.specs.Words.{wordAt}
+use Rattle.bits.specs.definitions.Bits.{bitOf}
+use Rattle.bits.specs.definitions.Words.{wordAt}
 use Rattle.bits.proofs.Tabulate.{getD-tabulate}
 use Rattle.bits.proofs.Value.{bit-lt}
 use Rattle.bits.proofs.Fields.{bytes-bit}
 use Rattle.bits.proofs.Words.{row-at}
-use Rattle.bch.specs.Mend.{mend, mended, flagOf}
-use Rattle.bch.specs.Word.{mendedFrame, flagsOf}
-use Rattle.bch.proofs.Theorems.{mended-lt}
-use Rattle.lanes.specs.Permutation.{Places}
-use Rattle.lanes.specs.Words.{wordLanes}
-use Rattle.lanes.specs.Stream.{streamBit, deinterleaved}
-use Rattle.lanes.proofs.Stream.{unwoven-stream}
-use Rattle.symbols.specs.Frame.{arrived, wordsOf}
+use Rattle.decoder.specs.definitions.Mend.{mend, mended, flagOf}
+use Rattle.decoder.specs.definitions.Word.{mendedFrame, flagsOf}
+use Rattle.decoder.proofs.Theorems.{mended-lt}
+use Rattle.lanes.specs.definitions.Permutation.{Places}
+use Rattle.lane_words.specs.definitions.LaneWords.{wordLanes}
+use Rattle.lanes.specs.definitions.Stream.{streamBit, deinterleaved}
+use Rattle.lanes.proofs.Stream.{deinterleaved-stream}
+use Rattle.symbols.specs.definitions.Frame.{arrived, wordsOf}
 use Rattle.symbols.proofs.Return.{arrived-lt}
-use Rattle.framing.specs.Receive.{broughtLanes, receivedLanes, receivedStore, receivedFlags, receiveNumber}
-use Rattle.framing.specs.Stream.{Received}
+use Rattle.framing.specs.definitions.Receive.{broughtLanes, receivedLanes, receivedStore, receivedFlags, receiveNumber}
+use Rattle.framing.specs.definitions.Stream.{Received}
 use Rattle.framing.proofs.Receiving.{store-length, done}
 
 -- ---- one frame, word by word
 
--- what a word is passedOn on as
+-- what a word is passed on as
 unfoldable pub passedOn : ℕ → ℕ
 passedOn w = mended w (mend w)
 
@@ -87,5 +87,5 @@ module _ (ex : Places) (n : ℕ) (frames outs flagBuffers : ℕ → List ℕ) (n
   pub back-stream : ((f : ℕ) → f < n → numbers f ≡ 0)
       → (p i : ℕ) → p < 32 → i < 1320 * n → streamBit back p i ≡ deinterleaved ex (streamBit (λ f. broughtLanes (frames f))) p i
   back-stream accepted p i hp hi =
-      unwoven-stream ex n (λ f. broughtLanes (frames f)) back stores p i hp hi
+      deinterleaved-stream ex n (λ f. broughtLanes (frames f)) back stores p i hp hi
       (record { fresh = R .fresh; out = λ f h. call-done f h (accepted f h) .1; next = λ f h. call-done f h (accepted f h) .0 })

@@ -6,32 +6,32 @@ use mathlib.Core.List.{List}
 use Prim.Native.Nat.{ℕ, suc}
 use lib.ListN.{length}
 use Rattle.bits.proofs.Tabulate.{length-tabulate}
-use Rattle.bits.specs.Bits.{AllBytes}
+use Rattle.bits.specs.definitions.Bits.{AllBytes}
 use Rattle.bits.proofs.Fields.{length-bytes}
-use Rattle.lanes.specs.Permutation.{Places, permuted, lanesOf, frameOf}
-use Rattle.lanes.specs.Interleaver.{receiver, woven, storeNext, unwovenFrame, unwovenStore}
-use Rattle.lanes.proofs.Bytewise.{frame-bytes, permuted-lt, woven-lt, lanes-lt}
-use Rattle.bch.specs.Word.{flagsOf}
-use Rattle.symbols.specs.Pilots.{locks}
-use Rattle.framing.specs.Call.{unless}
-use Rattle.framing.specs.Receive.{broughtLanes, receivedLanes, receivedStore, receivedFlags, receiveNumber, Receives}
+use Rattle.lanes.specs.definitions.Permutation.{Places, permuted, lanesOf, laneBytes}
+use Rattle.lanes.specs.definitions.Interleaver.{receiver, rowsOut, storeNext, deinterleavedFrame, deinterleavedStore}
+use Rattle.lanes.proofs.Bytewise.{frame-bytes, permuted-lt, rows-out-lt, lanes-lt}
+use Rattle.decoder.specs.definitions.Word.{flagsOf}
+use Rattle.pilots.specs.definitions.Pilots.{locks}
+use Rattle.framing.specs.definitions.Call.{unless}
+use Rattle.framing.specs.definitions.Receive.{broughtLanes, receivedLanes, receivedStore, receivedFlags, receiveNumber, Receives}
 use Rattle.framing.proofs.Calls.{passed, failed, passes, left, written}
 
 -- ---- lengths
 
 pub store-length : (f s : List ℕ) → length (receivedStore f s) ≡ 2880
-unfolding unwovenStore storeNext
+unfolding deinterleavedStore storeNext
 store-length f s = length-bytes _ _
 
 pub lanes-length : (ex : Places) (f s : List ℕ) → length (receivedLanes ex f s) ≡ 5280
-unfolding unwovenFrame frameOf
+unfolding deinterleavedFrame laneBytes
 lanes-length ex f s = length-bytes _ _
 
 pub lanes-bytes : (ex : Places) (f s : List ℕ) → AllBytes (receivedLanes ex f s)
-unfolding unwovenFrame
+unfolding deinterleavedFrame
 lanes-bytes ex f s =
-    let x = woven receiver s (lanesOf (broughtLanes f)) in
-    frame-bytes (permuted ex x) (permuted-lt ex x (woven-lt receiver s (lanesOf (broughtLanes f)) (lanes-lt (broughtLanes f))))
+    let x = rowsOut receiver s (lanesOf (broughtLanes f)) in
+    frame-bytes (permuted ex x) (permuted-lt ex x (rows-out-lt receiver s (lanesOf (broughtLanes f)) (lanes-lt (broughtLanes f))))
 
 pub flags-length : (f : List ℕ) → length (receivedFlags f) ≡ 384
 unfolding receivedFlags flagsOf

@@ -6,16 +6,16 @@ use Prim.Native.Nat.{ℕ, suc}
 use lib.ListN.{length}
 use Rattle.bits.proofs.Tabulate.{length-tabulate}
 use Rattle.bits.proofs.Fields.{length-bytes}
-use Rattle.lanes.specs.Permutation.{Places}
-use Rattle.lanes.specs.Interleaver.{wovenStore, storeNext}
-use Rattle.symbols.specs.Frame.{frameOf}
-use Rattle.framing.specs.Send.{sentFrame, sendNumber, Sends}
+use Rattle.lanes.specs.definitions.Permutation.{Places}
+use Rattle.lanes.specs.definitions.Interleaver.{interleavedStore, storeNext}
+use Rattle.symbols.specs.definitions.Frame.{frameOf}
+use Rattle.framing.specs.definitions.Send.{sentFrame, sendNumber, Sends}
 use Rattle.framing.proofs.Calls.{passed, failed, left, written}
 
 -- ---- lengths
 
-pub store-length : (ex : Places) (a s : List ℕ) → length (wovenStore ex a s) ≡ 2880
-unfolding wovenStore storeNext
+pub store-length : (ex : Places) (a s : List ℕ) → length (interleavedStore ex a s) ≡ 2880
+unfolding interleavedStore storeNext
 store-length ex a s = length-bytes _ _
 
 pub frame-length : (ex : Places) (a s : List ℕ) → length (sentFrame ex a s) ≡ 6144
@@ -46,13 +46,13 @@ module _ (a s o : List ℕ) where
 pub refused : (ex : Places) (a s o : List ℕ) (r : ℕ) → sendNumber a s o ≡ suc r → Sends ex a s o (suc r) s o
 refused ex a s o r e = record { number = sym e; store = sym (left _ r _ s e); output = sym (left _ r _ o e) }
 
-pub sent : (ex : Places) (a s o s′ o′ : List ℕ) → sendNumber a s o ≡ 0 → s′ ≡ wovenStore ex a s → o′ ≡ sentFrame ex a s → Sends ex a s o 0 s′ o′
+pub sent : (ex : Places) (a s o s′ o′ : List ℕ) → sendNumber a s o ≡ 0 → s′ ≡ interleavedStore ex a s → o′ ≡ sentFrame ex a s → Sends ex a s o 0 s′ o′
 sent ex a s o s′ o′ e p q = record { number = sym e; store = p ∙ sym (written _ _ s e); output = q ∙ sym (written _ _ o e) }
 
 -- and the other way: with the right lengths a call is done
 pub done :
     (ex : Places) (a s o : List ℕ) (r : ℕ) (s′ o′ : List ℕ) → length a ≡ 5280 → length s ≡ 2880 → length o ≡ 6144 → Sends ex a s o r s′ o′
-    → (r ≡ 0) × (s′ ≡ wovenStore ex a s) × (o′ ≡ sentFrame ex a s)
+    → (r ≡ 0) × (s′ ≡ interleavedStore ex a s) × (o′ ≡ sentFrame ex a s)
 done ex a s o r s′ o′ h h′ h″ C =
     let z : sendNumber a s o ≡ 0 = all-lengths a s o h h′ h″ in
     (C .number ∙ z, C .store ∙ written _ _ s z, C .output ∙ written _ _ o z)

@@ -1,5 +1,2 @@
-pub mod Call
-pub mod Send
-pub mod Receive
-pub mod Stream
-pub mod Bench
+pub mod definitions
+pub mod statements

@@ -1,10 +1,10 @@
 // One call: a frame sent, or a frame received.
 ghost use mathlib.Core.Path.{_≡_};
 ghost use lib.ListN.{length};
-ghost use Rattle.lanes.specs.Interleaver.{wovenStore};
-ghost use Rattle.framing.specs.Call.{base};
-ghost use Rattle.framing.specs.Send.{sentFrame, Sends};
-ghost use Rattle.framing.specs.Receive.{receivedLanes, receivedStore, receivedFlags, Receives};
+ghost use Rattle.lanes.specs.definitions.Interleaver.{interleavedStore};
+ghost use Rattle.framing.specs.definitions.Call.{base};
+ghost use Rattle.framing.specs.definitions.Send.{sentFrame, Sends};
+ghost use Rattle.framing.specs.definitions.Receive.{receivedLanes, receivedStore, receivedFlags, Receives};
 
 // The exchanged places of the base: 2 and 3.
 const EXCHANGED: u64 = 12;
@@ -12,12 +12,12 @@ const EXCHANGED: u64 = 12;
 // A frame of lanes through every stage; the store becomes what is kept.
 fn send_frame(lanes: &[u8; 5280], store: &mut [u8; 2880], frame: &mut [u8; 6144])
     ensures { λ _. ⌜ now (frame .exit) ≡ sentFrame base (now (lanes .entry)) (now (store .entry)) ⌝ }
-    ensures { λ _. ⌜ now (store .exit) ≡ wovenStore base (now (lanes .entry)) (now (store .entry)) ⌝ }
+    ensures { λ _. ⌜ now (store .exit) ≡ interleavedStore base (now (lanes .entry)) (now (store .entry)) ⌝ }
 {
-    let mut woven = [0u8; 5280];
-    lanes::stages::weave(EXCHANGED, lanes, store, &mut woven);
+    let mut interleaved = [0u8; 5280];
+    lanes::interleave(EXCHANGED, lanes, store, &mut interleaved);
     let mut words = [0u64; 768];
-    lanes::words::to_words(&woven, &mut words);
+    lane_words::to_words(&interleaved, &mut words);
     bch::encode_frame(&mut words);
     symbols::frame_from_words(&words, frame);
 }
@@ -26,7 +26,7 @@ fn send_frame(lanes: &[u8; 5280], store: &mut [u8; 2880], frame: &mut [u8; 6144]
 fn send_slices(input: &[u8], store: &mut [u8], output: &mut [u8])
     requires { ⌜ (length (now input) ≡ 5280) × (length (now store) ≡ 2880) × (length (now output) ≡ 6144) ⌝ }
     ensures { λ _. ⌜ now (output .exit) ≡ sentFrame base (now (input .entry)) (now (store .entry)) ⌝ }
-    ensures { λ _. ⌜ now (store .exit) ≡ wovenStore base (now (input .entry)) (now (store .entry)) ⌝ }
+    ensures { λ _. ⌜ now (store .exit) ≡ interleavedStore base (now (input .entry)) (now (store .entry)) ⌝ }
 {
     let mut lanes = [0u8; 5280];
     bits::copy(input, &mut lanes);
@@ -66,10 +66,10 @@ fn receive_frame(
 {
     let mut words = [0u64; 768];
     symbols::words_from_frame(frame, &mut words);
-    bch::decode_frame(&mut words, flags);
-    let mut woven = [0u8; 5280];
-    lanes::words::to_lanes(&words, &mut woven);
-    lanes::stages::unweave(EXCHANGED, &woven, store, lanes);
+    decoder::decode_frame(&mut words, flags);
+    let mut interleaved = [0u8; 5280];
+    lane_words::to_lanes(&words, &mut interleaved);
+    lanes::deinterleave(EXCHANGED, &interleaved, store, lanes);
 }
 
 // The same over slices of the right lengths.
@@ -106,7 +106,7 @@ pub fn receive(input: &[u8], store: &mut [u8], output: &mut [u8], flags: &mut [u
     if flags.len() != 384 {
         return 4;
     }
-    if !symbols::locks(input, 0) {
+    if !pilots::locks(input, 0) {
         return 5;
     }
     receive_slices(input, store, output, flags);

@@ -13,14 +13,14 @@ use lib.ListN.{getD, set, length, take, drop, List·getD-append}
 use lib.Seq.{getD-append-add}
 use lib.Bits.{bitAnd, bitXor, and-le-l, xor-lt, xor-shr, xor-mod}
 use borrow.Author.Tests.{lt-ltb, le-ltb}
-use Rattle.bits.specs.Bits.{tabulate, number, bitOf, bitAt, bytes, AllBytes}
+use Rattle.bits.specs.definitions.Bits.{tabulate, number, bitOf, bitAt, bytes, AllBytes}
 use Rattle.bits.proofs.Tabulate.{tabulate-cong, getD-tabulate}
-use Rattle.bits.proofs.Filling.{Filling, filling-turn, filling-at, filling-put}
+use Rattle.bits.proofs.Filling.{Filling, filling-step, filling-at, filling-put}
 use Rattle.bits.proofs.Value.{value-cong, bit-lt, bit-and, number-bits}
 use Rattle.bits.proofs.Fields.{bitAt-lt, bitAt-byte, bytes-bit, bytes-cong, bytes-bytes}
-use Rattle.lanes.specs.Permutation.{Lanes, Places, named, partner, permuted, lanesOf, frameOf}
-use Rattle.lanes.specs.Interleaver.{Rows, stored, woven, rowAt, storeBit, storeNext}
-use Rattle.lanes.specs.Blocks.{mergedByte, IsMasks, blockStart, blockByte, outFrom, keptFrom, source, IsSource}
+use Rattle.lanes.specs.definitions.Permutation.{Lanes, Places, named, partner, permuted, lanesOf, laneBytes}
+use Rattle.lanes.specs.definitions.Interleaver.{Rows, stored, rowsOut, rowAt, storeBit, storeNext}
+use Rattle.lanes.specs.private.Blocks.{mergedByte, IsMasks, blockStart, blockByte, outFrom, keptFrom, source, IsSource}
 
 -- ---- the permutation
 
@@ -167,8 +167,8 @@ block-lt z Z p b c = Z .byte (blockStart p b + c)
 module _ (R : Rows) (t : List ℕ) (T : IsSource R t) (x s : List ℕ) (long : length x ≡ 5280) (Z : AllBytes (x ++ s)) (y : Lanes)
     (same : (p i : ℕ) → p < 32 → i < 1320 → lanesOf x p i ≡ y p i) where
   -- the 33 blocks that come out
-  out-byte : (p b c : ℕ) → p < 32 → b < 33 → c < 5 → blockByte (x ++ s) p (source R b) c ≡ number 8 (λ k. woven R s y p (40 * b + (8 * c + k)))
-  unfolding woven source outFrom
+  out-byte : (p b c : ℕ) → p < 32 → b < 33 → c < 5 → blockByte (x ++ s) p (source R b) c ≡ number 8 (λ k. rowsOut R s y p (40 * b + (8 * c + k)))
+  unfolding rowsOut source outFrom
   out-byte p b c hp hb hc = by-bits (blockByte (x ++ s) p (source R b) c) _ (block-lt (x ++ s) Z p (source R b) c) bit
     where
       r : ℕ
@@ -192,7 +192,7 @@ module _ (R : Rows) (t : List ℕ) (T : IsSource R t) (x s : List ℕ) (long : l
           let l : 3 * (n - d) + r < 33 = omega arith in
           out-bit x s long p (3 * (n - d) + r) c k hp l hc h ∙ same p (40 * (3 * (n - d) + r) + (8 * c + k)) hp (omega arith)
 
-      bit : (k : ℕ) → k < 8 → bitOf 8 (blockByte (x ++ s) p (source R b) c) k ≡ woven R s y p (40 * b + (8 * c + k))
+      bit : (k : ℕ) → k < 8 → bitOf 8 (blockByte (x ++ s) p (source R b) c) k ≡ rowsOut R s y p (40 * b + (8 * c + k))
       bit k h =
           let m : ℕ = 8 * c + k in
           let e : (40 * b + m) / 40 ≡ b = omega arith in
@@ -239,14 +239,14 @@ module _ (R : Rows) (t : List ℕ) (T : IsSource R t) (x s : List ℕ) (long : l
           let d : 33 + j - 33 ≡ j = omega arith in
           rw (le-ltb (33 + j) 33 l, d, e, f) (moved (ltb q 11) k h)
 
-  pub out-is : tabulate 5280 (λ i. blockByte (x ++ s) (i / 165) (getD t (i % 165 / 5) 0) (i % 5)) ≡ frameOf (woven R s y)
-  unfolding frameOf bytes
+  pub out-is : tabulate 5280 (λ i. blockByte (x ++ s) (i / 165) (getD t (i % 165 / 5) 0) (i % 5)) ≡ laneBytes (rowsOut R s y)
+  unfolding laneBytes bytes
   out-is =
       tabulate-cong 5280 _ _
       (λ i h.
       ap (λ (b : ℕ). blockByte (x ++ s) (i / 165) b (i % 5)) (T .entry (i % 165 / 5) (omega arith))
       ∙ out-byte (i / 165) (i % 165 / 5) (i % 5) (omega arith) (omega arith) (omega arith)
-      ∙ sym (lane-byte 165 five-165 (lit< tt) (woven R s y) i))
+      ∙ sym (lane-byte 165 five-165 (lit< tt) (rowsOut R s y) i))
 
   pub kept-is : tabulate 2880 (λ i. blockByte (x ++ s) (i / 90) (getD t (33 + i % 90 / 5) 0) (i % 5)) ≡ storeNext R s y
   unfolding storeNext bytes
@@ -261,15 +261,15 @@ module _ (R : Rows) (t : List ℕ) (T : IsSource R t) (x s : List ℕ) (long : l
 
 -- a frame of given bits has them
 module _ (y : Lanes) (bit : (p i : ℕ) → y p i < 2) where
-  pub frame-bit : (p i : ℕ) → p < 32 → i < 1320 → lanesOf (frameOf y) p i ≡ y p i
-  unfolding frameOf
+  pub frame-bit : (p i : ℕ) → p < 32 → i < 1320 → lanesOf (laneBytes y) p i ≡ y p i
+  unfolding laneBytes
   frame-bit p i hp hi =
       let e : (1320 * p + i) / 1320 ≡ p = omega arith in
       let f : (1320 * p + i) % 1320 ≡ i = omega arith in
       bytes-bit 5280 (λ j. y (j / 1320) (j % 1320)) (λ j h. bit (j / 1320) (j % 1320)) (1320 * p + i) (omega arith) ∙ ap₂ y e f
 
-  pub frame-bytes : AllBytes (frameOf y)
-  unfolding frameOf
+  pub frame-bytes : AllBytes (laneBytes y)
+  unfolding laneBytes
   frame-bytes = bytes-bytes 5280 (λ j. y (j / 1320) (j % 1320)) (λ j h. bit (j / 1320) (j % 1320))
 
 pub permuted-lt : (ex : Places) (y : Lanes) → ((p i : ℕ) → y p i < 2) → (p i : ℕ) → permuted ex y p i < 2
@@ -280,9 +280,9 @@ permuted-lt ex y bit p i = go (ex (i / 10 % 4))
     go true = bit (partner p) i
     go false = bit p i
 
-pub woven-lt : (R : Rows) (s : List ℕ) (y : Lanes) → ((p i : ℕ) → y p i < 2) → (p i : ℕ) → woven R s y p i < 2
-unfolding woven
-woven-lt R s y bit p i = go (ltb n d)
+pub rows-out-lt : (R : Rows) (s : List ℕ) (y : Lanes) → ((p i : ℕ) → y p i < 2) → (p i : ℕ) → rowsOut R s y p i < 2
+unfolding rowsOut
+rows-out-lt R s y bit p i = go (ltb n d)
   where
     r : ℕ
     r = i / 40 % 3
@@ -312,10 +312,10 @@ permuted-twice ex x p i h = go (ex (i / 10 % 4))
     go true = ap (λ (q : ℕ). x q i) back
     go false = refl
 
--- the permutation hangs on a frame's bits alone, and on the four places that a number names
+-- the permutation depends on a frame's bits alone, and on the four places that a number names
 pub permuted-cong : (ex ex′ : Places) (x y : Lanes) → ((s : ℕ) → s < 4 → ex s ≡ ex′ s) → ((p i : ℕ) → p < 32 → i < 1320 → x p i ≡ y p i)
-    → frameOf (permuted ex x) ≡ frameOf (permuted ex′ y)
-unfolding frameOf permuted
+    → laneBytes (permuted ex x) ≡ laneBytes (permuted ex′ y)
+unfolding laneBytes permuted
 permuted-cong ex ex′ x y places same =
     bytes-cong 5280 _ _
     (λ j h. λ z. cond (places (j % 1320 / 10 % 4) (omega arith) z) (same (partner (j / 1320)) (j % 1320) (omega arith) (omega arith) z)
@@ -350,8 +350,8 @@ permuted-at t T e b k row x X he hb hk r =
 abbrev pub movedByte : (z t : List ℕ) (p first i : ℕ) → ℕ
 movedByte z t p first i = blockByte z p (getD t (first + i / 5) 0) (i % 5)
 
--- a turn that stores the block of entry b, which begins at from
-pub block-turn : (z t : List ℕ) (p first b from : ℕ) {n : ℕ} {out₀ out : List ℕ} → from ≡ blockStart p (getD t (first + b) 0)
+-- a step that stores the block of entry b, which begins at from
+pub block-step : (z t : List ℕ) (p first b from : ℕ) {n : ℕ} {out₀ out : List ℕ} → from ≡ blockStart p (getD t (first + b) 0)
     → Filling (movedByte z t p first) n out₀ out (5 * b) → 5 * b + 5 ≤ n
     → Filling (movedByte z t p first) n out₀
     (set
@@ -359,8 +359,8 @@ pub block-turn : (z t : List ℕ) (p first b from : ℕ) {n : ℕ} {out₀ out :
     (5 * b + 4) (getD z (from + 4) 0))
     (5 * (b + 1))
 unfolding blockByte
-block-turn z t p first b from {n} {out₀} q F h =
-    let F0 = filling-turn g (getD z from 0) F (omega arith) (at 0 (5 * b) from (lit< tt) (omega arith) (omega arith)) in
+block-step z t p first b from {n} {out₀} q F h =
+    let F0 = filling-step g (getD z from 0) F (omega arith) (at 0 (5 * b) from (lit< tt) (omega arith) (omega arith)) in
     let F1 = filling-at g (5 * b + 1) (getD z (from + 1) 0) (omega arith) F0 (omega arith) (at 1 (5 * b + 1) (from + 1) (lit< tt) refl refl) in
     let F2 = filling-at g (5 * b + 2) (getD z (from + 2) 0) (omega arith) F1 (omega arith) (at 2 (5 * b + 2) (from + 2) (lit< tt) refl refl) in
     let F3 = filling-at g (5 * b + 3) (getD z (from + 3) 0) (omega arith) F2 (omega arith) (at 3 (5 * b + 3) (from + 3) (lit< tt) refl refl) in
@@ -387,10 +387,10 @@ lane-block z t L first p k five h =
     let c : k % 5 ≡ (L * p + k) % 5 = ap (λ (x : ℕ). x % 5) r ∙ five (L * p + k) in
     λ w. blockByte z (d w) (getD t (first + r w / 5) 0) (c w)
 
--- a turn that lends the part of number p of L bytes: a lane, or sixteen blocks
-pub lane-turn : (f : ℕ → ℕ) {n : ℕ} {out₀ out : List ℕ} (L p e : ℕ) (part : List ℕ) (w : ℕ → ℕ) → Filling f n out₀ out (L * p) → e ≡ L * p + L → e ≤ n
+-- a step that lends the part of number p of L bytes: a lane, or sixteen blocks
+pub lane-step : (f : ℕ → ℕ) {n : ℕ} {out₀ out : List ℕ} (L p e : ℕ) (part : List ℕ) (w : ℕ → ℕ) → Filling f n out₀ out (L * p) → e ≡ L * p + L → e ≤ n
     → part ≡ tabulate (length (take (e - L * p) (drop (L * p) out))) w → ((k : ℕ) → k < L → w k ≡ f (L * p + k))
     → Filling f n out₀ (take (L * p) out ++ (part ++ drop (e - L * p) (drop (L * p) out))) (L * (p + 1))
-lane-turn f {n} {out₀} L p e part w F q le is agree =
+lane-step f {n} {out₀} L p e part w F q le is agree =
     let next : e ≡ L * (p + 1) = q ∙ sym (rw (add-one, mul-suc)) in
     subst (Filling f n out₀ _) next (filling-put f e part (λ m. w) F (omega arith) le is (λ k h. agree k (omega arith)))

@@ -1,9 +1,8 @@
+pub mod Lists
 pub mod Entries
 pub mod Bytewise
 pub mod Frames
 pub mod Rows
 pub mod Stream
 pub mod Return
-pub mod Laying
-pub mod LaneWords
 pub mod Determined

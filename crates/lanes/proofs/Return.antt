@@ -7,8 +7,8 @@ use mathlib.Core.Logic.{⊎-elim}
 use Prim.Native.Nat.{ℕ, _+_, _*_, _-_, _/_, _%_, _≤_, _<_}
 use native.Mathlib.Omega.{arith}
 use lib.Dec.{lit<}
-use Rattle.lanes.specs.Permutation.{Lanes, Places, partner, permuted}
-use Rattle.lanes.specs.Stream.{delayed, interleaved, deinterleaved}
+use Rattle.lanes.specs.definitions.Permutation.{Lanes, Places, partner, permuted}
+use Rattle.lanes.specs.definitions.Stream.{delayed, interleaved, deinterleaved}
 use Rattle.lanes.proofs.Rows.{lt-or-le, delayed-early, delayed-at}
 
 -- the lane with which symbol s of lane p stands after the permutation
@@ -79,7 +79,7 @@ module _ (ex : Places) where
       ∙ ⊎-elim (λ (l : i < d). delayed-early d (interleaved ex x q) i l)
       (λ (l : d ≤ i). delayed-at d (interleaved ex x q) i j (omega arith) ∙ delayed-early (40 * (18 * (j / 40 % 3))) (permuted ex x q) j (omega arith)) (lt-or-le i d)
 
-  -- what comes back by bit i hangs on what has arrived by then
+  -- what comes back by bit i depends on what has arrived by then
   pub deinterleaved-cong : (x y : Lanes) (p i : ℕ) → p < 32 → ((q j : ℕ) → q < 32 → j ≤ i → x q j ≡ y q j) → deinterleaved ex x p i ≡ deinterleaved ex y p i
   deinterleaved-cong x y p i h e =
       let d = 40 * (18 * (2 - i / 40 % 3)) in

@@ -8,8 +8,8 @@ use native.Mathlib.Nat.{mul-le-mul-left}
 use native.Mathlib.Omega.{arith}
 use lib.Dec.{ltb}
 use borrow.Author.Tests.{lt-ltb, le-ltb, ltb-true, ltb-false}
-use Rattle.lanes.specs.Interleaver.{Rows, sender, receiver, rowAt}
-use Rattle.lanes.specs.Stream.{delayed}
+use Rattle.lanes.specs.definitions.Interleaver.{Rows, sender, receiver, rowAt}
+use Rattle.lanes.specs.definitions.Stream.{delayed}
 
 pub lt-or-le : (m n : ℕ) → (m < n) ⊎ (n ≤ m)
 lt-or-le m n = go (ltb m n) refl
@@ -29,7 +29,7 @@ delayed-at d x i j h =
     let e : i - d ≡ j = omega arith in
     rw (le-ltb i d l, e)
 
--- it hangs on the difference only
+-- it depends on the difference only
 delayed-shift : (d k : ℕ) (x : ℕ → ℕ) (i : ℕ) → delayed d x i ≡ delayed (d + k) x (i + k)
 delayed-shift d k x i =
     ⊎-elim (λ (h : i < d). delayed-early d x i h ∙ sym (delayed-early (d + k) x (i + k) (omega arith)))

@@ -9,12 +9,12 @@ use native.Mathlib.Decide.{decLt}
 use native.Mathlib.Omega.{arith}
 use lib.Dec.{ltb}
 use lib.ListN.{length, getD, replicate, length-replicate, getD-replicate, List·getD-eq-default}
-use Rattle.bits.specs.Bits.{bitOf, bitAt}
+use Rattle.bits.specs.definitions.Bits.{bitOf, bitAt}
 use Rattle.bits.proofs.Fields.{bitAt-lt, bytes-bit}
-use Rattle.lanes.specs.Permutation.{Lanes, Places, partner, permuted, lanesOf}
-use Rattle.lanes.specs.Interleaver.{Rows, sender, receiver, stored, woven, rowAt, storeBit, storeNext, wovenFrame, wovenStore, unwovenFrame, unwovenStore}
-use Rattle.lanes.specs.Stream.{streamBit, delayed, interleaved, deinterleaved, Woven, Unwoven}
-use Rattle.lanes.proofs.Bytewise.{frame-bit, permuted-lt, woven-lt, lanes-lt}
+use Rattle.lanes.specs.definitions.Permutation.{Lanes, Places, partner, permuted, lanesOf}
+use Rattle.lanes.specs.definitions.Interleaver.{Rows, sender, receiver, stored, rowsOut, rowAt, storeBit, storeNext, interleavedFrame, interleavedStore, deinterleavedFrame, deinterleavedStore}
+use Rattle.lanes.specs.definitions.Stream.{streamBit, delayed, interleaved, deinterleaved, Interleaves, Deinterleaves}
+use Rattle.lanes.proofs.Bytewise.{frame-bit, permuted-lt, rows-out-lt, lanes-lt}
 use Rattle.lanes.proofs.Rows.{Apart, sender-apart, receiver-apart, Run, run-law, delayed-grain}
 
 -- a string of zeros has no bit
@@ -54,8 +54,8 @@ module _ (R : Rows) (apart : Apart R) (n : ℕ) (xs : ℕ → Lanes) (bit : (f p
     (next : (f : ℕ) → f < n → stores (suc f) ≡ storeNext R (stores f) (xs f)) where
   -- bit c of every block of lane p
   block-run : (p c : ℕ) → p < 32 → c < 40
-      → Run R n (λ f b. xs f p (40 * b + c)) (λ f b. woven R (stores f) (xs f) p (40 * b + c)) (λ f j. stored (stores f) p (40 * j + c))
-  unfolding woven storeBit
+      → Run R n (λ f b. xs f p (40 * b + c)) (λ f b. rowsOut R (stores f) (xs f) p (40 * b + c)) (λ f j. stored (stores f) p (40 * j + c))
+  unfolding rowsOut storeBit
   block-run p c hp hc =
       record {
         fresh = λ j h. ap (λ (s : List ℕ). stored s p (40 * j + c)) fresh ∙ zero-bit 2880 (720 * p + (40 * j + c));
@@ -69,7 +69,7 @@ module _ (R : Rows) (apart : Apart R) (n : ℕ) (xs : ℕ → Lanes) (bit : (f p
             ap (λ (s : List ℕ). stored s p (40 * j + c)) (next f hf) ∙ stored-bit R (stores f) (xs f) (bit f) p (40 * j + c) hp (omega arith) ∙ rw (e, d);
       }
 
-  rows-law : (p i : ℕ) → p < 32 → i < 1320 * n → woven R (stores (i / 1320)) (xs (i / 1320)) p (i % 1320) ≡ delayed (40 * (3 * R .depth (i / 40 % 3))) (X p) i
+  rows-law : (p i : ℕ) → p < 32 → i < 1320 * n → rowsOut R (stores (i / 1320)) (xs (i / 1320)) p (i % 1320) ≡ delayed (40 * (3 * R .depth (i / 40 % 3))) (X p) i
   rows-law p i hp hi =
       let f : ℕ = i / 1320 in
       let b : ℕ = i % 1320 / 40 in
@@ -77,8 +77,8 @@ module _ (R : Rows) (apart : Apart R) (n : ℕ) (xs : ℕ → Lanes) (bit : (f p
       let u : i % 1320 ≡ 40 * b + c = omega arith in
       let m : 33 * f + b ≡ i / 40 = omega arith in
       let w : 40 * (33 * f + b) + c ≡ i = omega arith in
-      ap (woven R (stores f) (xs f) p) u
-      ∙ run-law R apart n (λ f b. xs f p (40 * b + c)) (λ f b. woven R (stores f) (xs f) p (40 * b + c)) (λ f j. stored (stores f) p (40 * j + c))
+      ap (rowsOut R (stores f) (xs f) p) u
+      ∙ run-law R apart n (λ f b. xs f p (40 * b + c)) (λ f b. rowsOut R (stores f) (xs f) p (40 * b + c)) (λ f j. stored (stores f) p (40 * j + c))
       (block-run p c hp (omega arith)) (λ m. X p (40 * m + c))
       (λ f b hf hb. cut f p (40 * b + c) hf (omega arith) ∙ ap (X p) (omega arith)) f b (omega arith) (omega arith)
       ∙ delayed-grain 40 c (3 * R .depth ((33 * f + b) % 3)) (33 * f + b) (X p) (omega arith)
@@ -99,30 +99,30 @@ permuted-cut ex ins f p u h =
     λ k. cond (ex (s k)) (stream-cut ins f (partner p) u h k) (stream-cut ins f p u h k)
 
 module _ (ex : Places) (n : ℕ) (ins outs stores : ℕ → List ℕ) (p i : ℕ) (hp : p < 32) (hi : i < 1320 * n) where
-  pub woven-stream : Woven ex n ins outs stores → streamBit outs p i ≡ interleaved ex (streamBit ins) p i
-  unfolding streamBit interleaved wovenFrame wovenStore
-  woven-stream W =
+  pub interleaved-stream : Interleaves ex n ins outs stores → streamBit outs p i ≡ interleaved ex (streamBit ins) p i
+  unfolding streamBit interleaved interleavedFrame interleavedStore
+  interleaved-stream W =
       let f : ℕ = i / 1320 in
       let x : Lanes = permuted ex (lanesOf (ins f)) in
       let lt : (g p i : ℕ) → permuted ex (lanesOf (ins g)) p i < 2 = λ g. permuted-lt ex (lanesOf (ins g)) (lanes-lt (ins g)) in
       let d : 40 * (3 * (6 * (i / 40 % 3))) ≡ 40 * (18 * (i / 40 % 3)) = omega arith in
       ap (λ (l : List ℕ). lanesOf l p (i % 1320)) (W .out f (omega arith))
-      ∙ frame-bit (woven sender (stores f) x) (woven-lt sender (stores f) x (lt f)) p (i % 1320) hp (omega arith)
+      ∙ frame-bit (rowsOut sender (stores f) x) (rows-out-lt sender (stores f) x (lt f)) p (i % 1320) hp (omega arith)
       ∙ rows-law sender sender-apart n (λ f. permuted ex (lanesOf (ins f))) lt stores (permuted ex (streamBit ins)) (λ f p u hf hu. permuted-cut ex ins f p u hu)
       (W .fresh) (W .next) p i hp hi
       ∙ ap (λ (k : ℕ). delayed k (permuted ex (streamBit ins) p) i) d
 
-  pub unwoven-stream : Unwoven ex n ins outs stores → streamBit outs p i ≡ deinterleaved ex (streamBit ins) p i
-  unfolding streamBit deinterleaved unwovenFrame unwovenStore permuted
-  unwoven-stream U =
+  pub deinterleaved-stream : Deinterleaves ex n ins outs stores → streamBit outs p i ≡ deinterleaved ex (streamBit ins) p i
+  unfolding streamBit deinterleaved deinterleavedFrame deinterleavedStore permuted
+  deinterleaved-stream U =
       let f : ℕ = i / 1320 in
-      let w : Lanes = woven receiver (stores f) (lanesOf (ins f)) in
+      let w : Lanes = rowsOut receiver (stores f) (lanesOf (ins f)) in
       let s : i % 1320 / 10 % 4 ≡ i / 10 % 4 = omega arith in
       ap (λ (l : List ℕ). lanesOf l p (i % 1320)) (U .out f (omega arith))
-      ∙ frame-bit (permuted ex w) (permuted-lt ex w (woven-lt receiver (stores f) (lanesOf (ins f)) (lanes-lt (ins f)))) p (i % 1320) hp (omega arith)
+      ∙ frame-bit (permuted ex w) (permuted-lt ex w (rows-out-lt receiver (stores f) (lanesOf (ins f)) (lanes-lt (ins f)))) p (i % 1320) hp (omega arith)
       ∙ (λ k. cond (ex (s k)) (row (partner p) (omega arith) k) (row p hp k))
     where
-      row : (q : ℕ) → q < 32 → woven receiver (stores (i / 1320)) (lanesOf (ins (i / 1320))) q (i % 1320) ≡ delayed (40 * (18 * (2 - i / 40 % 3))) (streamBit ins q) i
+      row : (q : ℕ) → q < 32 → rowsOut receiver (stores (i / 1320)) (lanesOf (ins (i / 1320))) q (i % 1320) ≡ delayed (40 * (18 * (2 - i / 40 % 3))) (streamBit ins q) i
       row q hq =
           let d : 40 * (3 * (12 - 6 * (i / 40 % 3))) ≡ 40 * (18 * (2 - i / 40 % 3)) = omega arith in
           rows-law receiver receiver-apart n (λ f. lanesOf (ins f)) (λ f. lanes-lt (ins f)) stores (streamBit ins) (λ f p u hf hu. stream-cut ins f p u hu)

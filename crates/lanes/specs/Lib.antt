@@ -1,5 +1,2 @@
-pub mod Permutation
-pub mod Interleaver
-pub mod Blocks
-pub mod Stream
-pub mod Words
+pub mod definitions
+pub mod private

@@ -1,6 +1,6 @@
-// The tables of the stages. proofs/Entries holds them as lists, with the rule of each, by a test over the whole table.
+// The tables of the stages. Written by the program `tables` of second/; proofs/Entries has the rule of each, by a test over the whole table.
 
-// Where each of a lane's 51 blocks comes from when a frame is woven: the 33 that come out, then the 18 that are kept.
+// Where each of a lane's 51 blocks comes from when a frame is interleaved: the 33 that come out, then the 18 that are kept.
 pub const SENDER: [usize; 51] = [
     0,
     38,
@@ -55,7 +55,7 @@ pub const SENDER: [usize; 51] = [
     39,
 ];
 
-// The same when a frame is unwoven.
+// The same when a frame is deinterleaved.
 pub const RECEIVER: [usize; 51] = [
     44,
     50,

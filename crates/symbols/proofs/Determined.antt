@@ -3,25 +3,10 @@
 use mathlib.Core.Path.{_≡_, refl, sym, _∙_}
 use denote.Ref.{now}
 use Rattle.bits.proofs.Fixes.{Fixes}
-use Rattle.symbols.proofs.label_level.Kinds as level-kinds
-use Rattle.symbols.proofs.label_level.Reads as level-reads
-use Rattle.symbols.proofs.level_label.Kinds as label-kinds
-use Rattle.symbols.proofs.level_label.Reads as label-reads
-use Rattle.symbols.proofs.locks.Kinds as locks-kinds
-use Rattle.symbols.proofs.locks.Reads as locks-reads
 use Rattle.symbols.proofs.frame_from_words.Kinds as frame-kinds
 use Rattle.symbols.proofs.frame_from_words.Reads as frame-reads
 use Rattle.symbols.proofs.words_from_frame.Kinds as words-kinds
 use Rattle.symbols.proofs.words_from_frame.Reads as words-reads
-
-pub label-level-determined : Fixes 0 level-kinds.ps level-kinds.r level-reads.Post (λ κs s t. Unit)
-label-level-determined κs a x y s t p q = (p ∙ sym q, tt)
-
-pub level-label-determined : Fixes 0 label-kinds.ps label-kinds.r label-reads.Post (λ κs s t. Unit)
-level-label-determined κs a x y s t p q = (p ∙ sym q, tt)
-
-pub locks-determined : Fixes 1 locks-kinds.ps locks-kinds.r locks-reads.Post (λ κs s t. Unit)
-locks-determined κs a x y s t p q = (p ∙ sym q, tt)
 
 -- no result, and the frame at exit
 pub frame-from-words-determined : Fixes 2 frame-kinds.ps frame-kinds.r frame-reads.Post (λ κs s t. now (s .1 .0) ≡ now (t .1 .0))

@@ -13,37 +13,41 @@ use lib.Dec.{eqb, ltb}
 use lib.ListN.{length, getD, set, drop, length-set}
 use lib.Seq.{getD-drop, drop-drop, getD-set-same, getD-set-other}
 use borrow.Author.Tests.{lt-ltb, le-ltb}
-use Rattle.bits.specs.Bits.{value, number, bitOf, bitAt, tabulate}
-use Rattle.bits.specs.Words.{wordOf, wordAt, halfOf, rowOf}
+use Rattle.bits.specs.definitions.Bits.{value, number, bitOf, bitAt, tabulate}
+use Rattle.bits.specs.definitions.Words.{wordOf, wordAt, halfOf, rowOf}
 use Rattle.bits.proofs.Value.{value-more, value-cong, value-lt, value-append, value-top, value-low, bit-lt, bit-number}
 use Rattle.bits.proofs.Fields.{bitAt-lt, bitAt-byte}
 use Rattle.bits.proofs.Tabulate.{getD-tabulate, tabulate-cong, is-tabulate}
 use Rattle.symbols.specs.declared.Quad.{Quad}
-use Rattle.symbols.specs.Mapping.{place, payloadAt, symbolOf, tributaryOf, bitIn}
-use Rattle.symbols.specs.Frame.{placedBit, arrived, wordsOf}
+use Rattle.shuffle.specs.definitions.Shuffle.{place, unshuffled}
+use Rattle.bits.proofs.Words.{row-cong}
+use Rattle.shuffle.proofs.Places.{place-lt}
+use Rattle.symbols.specs.definitions.Mapping.{payloadAt, symbolOf, tributaryOf, bitIn}
+use Rattle.symbols.specs.definitions.Frame.{placedBit, arrived, wordsOf}
 use Rattle.symbols.proofs.Symbols.{tributary-mod}
-use Rattle.symbols.specs.Tables.{back, turned, turnedRow, tributaryIn, pairOf, spreadOf, IsSpread, gathered, quadOf, fieldsOf, Room, joined, quadPut, numberAt, placedWord}
+use Rattle.mapper_tables.specs.private.Tables.{tributaryIn, dibitOf, dibitsOf, IsDibits}
+use Rattle.symbols.specs.private.Numbers.{gathered, quadOf, fieldsOf, Room, joined, quadPut, gatheredAt, placedWord}
 
 -- ---- a symbol's pairs, by the table
 
-pair-lt : (l r x : ℕ) → pairOf l r x < 4
-unfolding pairOf
+pair-lt : (l r x : ℕ) → dibitOf l r x < 4
+unfolding dibitOf
 pair-lt l r x = omega (arith, bit-lt 8 x (2 * tributaryIn l r + l % 2), bit-lt 8 x (2 * tributaryIn l r + (l + 1) % 2))
 
 tributary-lt : (l r : ℕ) → tributaryIn l r < 4
 unfolding tributaryIn
 tributary-lt l r = omega arith
 
-pair-mod : (l r x : ℕ) → pairOf (l % 4) r x ≡ pairOf l r x
-unfolding pairOf
+pair-mod : (l r x : ℕ) → dibitOf (l % 4) r x ≡ dibitOf l r x
+unfolding dibitOf
 pair-mod l r x =
     let e : l % 4 % 2 ≡ l % 2 = omega arith in
     let d : (l % 4 + 1) % 2 ≡ (l + 1) % 2 = omega arith in
     λ k. bitOf 8 x (2 * tributary-mod l r k + e k) * 2 + bitOf 8 x (2 * tributary-mod l r k + d k)
 
-pub spread-at : (t : List ℕ) (l x : ℕ) → IsSpread t → x < 256 → getD t (256 * (l % 4) + x) 0 ≡ spreadOf l x
-unfolding spreadOf
-spread-at t l x S h =
+pub dibits-at : (t : List ℕ) (l x : ℕ) → IsDibits t → x < 256 → getD t (256 * (l % 4) + x) 0 ≡ dibitsOf l x
+unfolding dibitsOf
+dibits-at t l x S h =
     S .entry (l % 4) x (omega arith) h
     ∙ λ k. pair-mod l 0 x k * 2 ^ 48 + pair-mod l 1 x k * 2 ^ 32 + pair-mod l 2 x k * 2 ^ 16 + pair-mod l 3 x k
 
@@ -54,7 +58,7 @@ module _ (l : ℕ) (s : List ℕ) (r : ℕ) where
   unfolding gathered value
   gathered-none = refl
 
-  gathered-more : (n : ℕ) → gathered (n + 1) l s r ≡ gathered n l s r * 4 + pairOf (l + n) r (getD s n 0)
+  gathered-more : (n : ℕ) → gathered (n + 1) l s r ≡ gathered n l s r * 4 + dibitOf (l + n) r (getD s n 0)
   unfolding gathered
   gathered-more n = value-more 4 n _
 
@@ -70,7 +74,7 @@ module _ (l : ℕ) (s : List ℕ) (r : ℕ) where
   unfolding gathered
   gathered-append n m =
       value-append 4 n m _
-      ∙ ap (λ (v : ℕ). gathered n l s r * 4 ^ m + v) (value-cong 4 m _ _ (λ i _ k. pairOf (sym (add-assoc l n i) k) r (sym (getD-drop n s i 0) k)))
+      ∙ ap (λ (v : ℕ). gathered n l s r * 4 ^ m + v) (value-cong 4 m _ _ (λ i _ k. dibitOf (sym (add-assoc l n i) k) r (sym (getD-drop n s i 0) k)))
 
 -- ---- four numbers of at most 8 pairs in four fields
 
@@ -79,11 +83,11 @@ module _ (s : List ℕ) (at l : ℕ) where
   unfolding fieldsOf
   fields-none = let g = gathered-none l (drop at s) in omega (arith, g 0, g 1, g 2, g 3)
 
-  pub fields-turn : (j v x : ℕ) → v ≡ fieldsOf j l (drop at s) → x ≡ spreadOf (l + j) (getD s (at + j) 0) → v * 4 + x ≡ fieldsOf (j + 1) l (drop at s)
-  unfolding fieldsOf spreadOf
-  fields-turn j v x e p =
-      let g : (r : ℕ) → gathered (j + 1) l (drop at s) r ≡ gathered j l (drop at s) r * 4 + pairOf (l + j) r (getD (drop at s) j 0) = λ r. gathered-more l (drop at s) r j in
-      let p′ = p ∙ ap (spreadOf (l + j)) (sym (getD-drop at s j 0)) in
+  pub fields-step : (j v x : ℕ) → v ≡ fieldsOf j l (drop at s) → x ≡ dibitsOf (l + j) (getD s (at + j) 0) → v * 4 + x ≡ fieldsOf (j + 1) l (drop at s)
+  unfolding fieldsOf dibitsOf
+  fields-step j v x e p =
+      let g : (r : ℕ) → gathered (j + 1) l (drop at s) r ≡ gathered j l (drop at s) r * 4 + dibitOf (l + j) r (getD (drop at s) j 0) = λ r. gathered-more l (drop at s) r j in
+      let p′ = p ∙ ap (dibitsOf (l + j)) (sym (getD-drop at s j 0)) in
       omega (arith, g 0, g 1, g 2, g 3, p′)
 
   -- room for one more pair in each field
@@ -114,10 +118,10 @@ module _ (s : List ℕ) (at l : ℕ) where
       let room : (r : ℕ) → gathered n l (drop at s) r < 2 ^ 48 = λ r. gathered-le l (drop at s) r n 24 h in
       subst Room (sym e) (record { a = room 0; b = room 1; c = room 2; d = room 3 })
 
-  pub quad-turn : (n : ℕ) (q : Quad) (v : ℕ) (r : Quad) → q ≡ quadOf n l (drop at s) → v ≡ fieldsOf 8 (l + n) (drop (at + n) s) → r ≡ joined q v
+  pub quad-step : (n : ℕ) (q : Quad) (v : ℕ) (r : Quad) → q ≡ quadOf n l (drop at s) → v ≡ fieldsOf 8 (l + n) (drop (at + n) s) → r ≡ joined q v
       → r ≡ quadOf (n + 8) l (drop at s)
   unfolding joined quadOf fieldsOf
-  quad-turn n q v r e p h =
+  quad-step n q v r e p h =
       let t = drop n (drop at s) in
       let p′ = p ∙ ap (fieldsOf 8 (l + n)) (sym (drop-drop n at s)) in
       let small : (i : ℕ) → gathered 8 (l + n) t i < 2 ^ 16 = λ i. gathered-lt (l + n) t i 8 in
@@ -188,8 +192,8 @@ module _ (f : List ℕ) (g r : ℕ) (h : g < 96) (b : r < 4) where
         ∙ bitAt-byte f (g * 64 + 1 + j) _ (omega (arith, tributary-lt (g % 8 * 63 + j) r))
 
   -- a symbol's pair is two bits of the word
-  placed-pair : (j : ℕ) → j < 63 → pairOf (g % 8 * 63 + j) r (getD f (g * 64 + 1 + j) 0) ≡ bitsOf (2 * j) * 2 + bitsOf (2 * j + 1)
-  unfolding pairOf
+  placed-pair : (j : ℕ) → j < 63 → dibitOf (g % 8 * 63 + j) r (getD f (g * 64 + 1 + j) 0) ≡ bitsOf (2 * j) * 2 + bitsOf (2 * j + 1)
+  unfolding dibitOf
   placed-pair j hj =
       let l = g % 8 * 63 + j in
       let z : 2 * j + 0 ≡ 2 * j = omega arith in
@@ -207,13 +211,13 @@ module _ (f : List ℕ) (g r : ℕ) (h : g < 96) (b : r < 4) where
       ∙ mod-eq-of-lt (gathered-lt (g % 8 * 63 + 3 + 1) (drop 1 (drop (g * 64) f)) r 31)
       ∙ value-cong 4 31 _ _ at ∙ pairs-number bitsOf 31
     where
-      at : (i : ℕ) → i < 31 → pairOf (g % 8 * 63 + 3 + 1 + i) r (getD (drop 1 (drop (g * 64) f)) i 0) ≡ bitsOf (2 * i) * 2 + bitsOf (2 * i + 1)
+      at : (i : ℕ) → i < 31 → dibitOf (g % 8 * 63 + 3 + 1 + i) r (getD (drop 1 (drop (g * 64) f)) i 0) ≡ bitsOf (2 * i) * 2 + bitsOf (2 * i + 1)
       at i c =
           let x = getD f (g * 64 + 1 + i) 0 in
           let e : (g % 8 * 63 + 3 + 1 + i) % 4 ≡ (g % 8 * 63 + i) % 4 = omega arith in
-          ap (pairOf (g % 8 * 63 + 3 + 1 + i) r)
+          ap (dibitOf (g % 8 * 63 + 3 + 1 + i) r)
           (getD-drop 1 (drop (g * 64) f) i 0 ∙ getD-drop (g * 64) f (1 + i) 0 ∙ ap (λ (k : ℕ). getD f k 0) (sym (add-assoc (g * 64) 1 i)))
-          ∙ sym (pair-mod (g % 8 * 63 + 3 + 1 + i) r x) ∙ ap (λ (l : ℕ). pairOf l r x) e ∙ pair-mod (g % 8 * 63 + i) r x
+          ∙ sym (pair-mod (g % 8 * 63 + 3 + 1 + i) r x) ∙ ap (λ (l : ℕ). dibitOf l r x) e ∙ pair-mod (g % 8 * 63 + i) r x
           ∙ placed-pair i (omega arith)
 
   -- the other 32
@@ -221,13 +225,13 @@ module _ (f : List ℕ) (g r : ℕ) (h : g < 96) (b : r < 4) where
   unfolding gathered
   lower-gathered = value-cong 4 32 _ _ at ∙ pairs-number (λ q. bitsOf (62 + q)) 32
     where
-      at : (i : ℕ) → i < 32 → pairOf (g % 8 * 63 + 31 + i) r (getD (drop (g * 64 + 32) f) i 0) ≡ bitsOf (62 + 2 * i) * 2 + bitsOf (62 + (2 * i + 1))
+      at : (i : ℕ) → i < 32 → dibitOf (g % 8 * 63 + 31 + i) r (getD (drop (g * 64 + 32) f) i 0) ≡ bitsOf (62 + 2 * i) * 2 + bitsOf (62 + (2 * i + 1))
       at i c =
           let e : g % 8 * 63 + 31 + i ≡ g % 8 * 63 + (31 + i) = omega arith in
           let d : g * 64 + 32 + i ≡ g * 64 + 1 + (31 + i) = omega arith in
           let u : 2 * (31 + i) ≡ 62 + 2 * i = omega arith in
           let v : 2 * (31 + i) + 1 ≡ 62 + (2 * i + 1) = omega arith in
-          ap₂ (λ (l x : ℕ). pairOf l r x) e (getD-drop (g * 64 + 32) f i 0 ∙ ap (λ (k : ℕ). getD f k 0) d)
+          ap₂ (λ (l x : ℕ). dibitOf l r x) e (getD-drop (g * 64 + 32) f i 0 ∙ ap (λ (k : ℕ). getD f k 0) d)
           ∙ placed-pair (31 + i) (omega arith) ∙ λ k. bitsOf (u k) * 2 + bitsOf (v k)
 
   -- word i, by its upper and its lower number
@@ -249,7 +253,7 @@ module _ (f : List ℕ) (g r : ℕ) (h : g < 96) (b : r < 4) where
 unfoldable pub order : ℕ → ℕ
 order j = j / 8 * 8 + j % 2 * 4 + j % 8 / 2
 
--- no two numbers have the same turn
+-- no two numbers come in the same step
 order-same : (i j : ℕ) → order i ≡ order j → i ≡ j
 unfolding order
 order-same i j e =
@@ -276,8 +280,8 @@ module _ (f : List ℕ) (h r : ℕ) (b : r < 4) where
   lane-of : r ≡ (h / 2 * 8 + h % 2 + 2 * r) % 8 / 2
   lane-of = omega arith
 
-  number-is : gathered 32 (h / 2 % 8 * 63 + 3 + h % 2 * 28) (drop (h * 32) f) r ≡ numberAt f (h / 2 * 8 + h % 2 + 2 * r)
-  unfolding numberAt
+  number-is : gathered 32 (h / 2 % 8 * 63 + 3 + h % 2 * 28) (drop (h * 32) f) r ≡ gatheredAt f (h / 2 * 8 + h % 2 + 2 * r)
+  unfolding gatheredAt
   number-is =
       let d : h * 32 ≡ h / 2 * 64 + h % 2 * 32 = omega arith in
       ap (λ (n : ℕ). gathered 32 (h / 2 % 8 * 63 + 3 + h % 2 * 28) (drop n f) r) d
@@ -290,25 +294,25 @@ module _ (f : List ℕ) (h r : ℕ) (b : r < 4) where
 -- the first m numbers that are stored are there
 pub record Gathering (f : List ℕ) (m : ℕ) (s : List ℕ) : Type 0 where
   pub long : length s ≡ 768
-  pub done : (j : ℕ) → j < 768 → order j < m → getD s j 0 ≡ numberAt f j
+  pub done : (j : ℕ) → j < 768 → order j < m → getD s j 0 ≡ gatheredAt f j
 
 module _ {f : List ℕ} where
   pub gathering-start : {s : List ℕ} → length s ≡ 768 → Gathering f 0 s
   gathering-start e = record { long = e; done = λ j _ l. absurd (not-suc-le-zero l) }
 
   -- the next number is stored
-  put : {s : List ℕ} {m : ℕ} (o x : ℕ) → Gathering f m s → o < 768 → order o ≡ m → x ≡ numberAt f o → Gathering f (m + 1) (set s o x)
+  put : {s : List ℕ} {m : ℕ} (o x : ℕ) → Gathering f m s → o < 768 → order o ≡ m → x ≡ gatheredAt f o → Gathering f (m + 1) (set s o x)
   put {s} {m} o x G h e v = record { long = length-set s o x ∙ G .long; done = λ j b l. at j (ℕ-discrete j o) b l }
     where
-      at : (j : ℕ) → Dec (j ≡ o) → j < 768 → order j < m + 1 → getD (set s o x) j 0 ≡ numberAt f j
-      at j (yes q) b l = subst (λ (k : ℕ). getD (set s o x) k 0 ≡ numberAt f k) (sym q) (getD-set-same s o x 0 (omega (arith, G .long)) ∙ v)
+      at : (j : ℕ) → Dec (j ≡ o) → j < 768 → order j < m + 1 → getD (set s o x) j 0 ≡ gatheredAt f j
+      at j (yes q) b l = subst (λ (k : ℕ). getD (set s o x) k 0 ≡ gatheredAt f k) (sym q) (getD-set-same s o x 0 (omega (arith, G .long)) ∙ v)
       at j (no ne) b l = let d : order j ≢ m = λ q. ne (order-same j o (q ∙ sym e)) in getD-set-other s o j x 0 ne ∙ G .done j b (omega arith)
 
-  -- a turn stores four
-  pub gathering-turn : {s s′ : List ℕ} {h : ℕ} {q : Quad} → Gathering f (4 * h) s → h < 192
+  -- a step stores four
+  pub gathering-step : {s s′ : List ℕ} {h : ℕ} {q : Quad} → Gathering f (4 * h) s → h < 192
       → q ≡ quadOf 32 (h / 2 % 8 * 63 + 3 + h % 2 * 28) (drop (h * 32) f) → s′ ≡ quadPut q (h / 2 * 8 + h % 2) s → Gathering f (4 * (h + 1)) s′
   unfolding quadOf quadPut
-  gathering-turn {s} {s′} {h} {q} G b e p =
+  gathering-step {s} {s′} {h} {q} G b e p =
       let o = h / 2 * 8 + h % 2 in
       let z : o + 2 * 0 ≡ o = omega arith in
       let y : 4 * h + 0 ≡ 4 * h = omega arith in
@@ -318,17 +322,17 @@ module _ {f : List ℕ} where
       (put (o + 6) (q .d)
       (put (o + 4) (q .c)
       (put (o + 2) (q .b)
-      (put o (q .a) G (omega arith) (ap order (sym z) ∙ order-is f h 0 (omega arith) ∙ y) (ap (λ (v : Quad). v .a) e ∙ number-is f h 0 (omega arith) ∙ ap (numberAt f) z))
+      (put o (q .a) G (omega arith) (ap order (sym z) ∙ order-is f h 0 (omega arith) ∙ y) (ap (λ (v : Quad). v .a) e ∙ number-is f h 0 (omega arith) ∙ ap (gatheredAt f) z))
       (omega arith) (order-is f h 1 (omega arith)) (ap (λ (v : Quad). v .b) e ∙ number-is f h 1 (omega arith)))
       (omega arith) (omega (arith, order-is f h 2 (omega arith))) (ap (λ (v : Quad). v .c) e ∙ number-is f h 2 (omega arith)))
       (omega arith) (omega (arith, order-is f h 3 (omega arith))) (ap (λ (v : Quad). v .d) e ∙ number-is f h 3 (omega arith))))
 
-  pub gathering-done : {s : List ℕ} {h : ℕ} → Gathering f (4 * h) s → 192 ≤ h → s ≡ tabulate 768 (numberAt f)
-  gathering-done {s} G b = is-tabulate 0 s 768 (numberAt f) (G .long) (λ j l. G .done j l (omega (arith, order-lt j l)))
+  pub gathering-done : {s : List ℕ} {h : ℕ} → Gathering f (4 * h) s → 192 ≤ h → s ≡ tabulate 768 (gatheredAt f)
+  gathering-done {s} G b = is-tabulate 0 s 768 (gatheredAt f) (G .long) (λ j l. G .done j l (omega (arith, order-lt j l)))
 
 -- the row has the words of the frame, the pilot's pair being cut off
-placed-word : (f : List ℕ) (i : ℕ) → i < 384 → wordAt (tabulate 768 (numberAt f)) i ≡ placedWord f i
-unfolding wordAt wordOf numberAt
+placed-word : (f : List ℕ) (i : ℕ) → i < 384 → wordAt (tabulate 768 (gatheredAt f)) i ≡ placedWord f i
+unfolding wordAt wordOf gatheredAt
 placed-word f i h =
     let g = i / 4 in
     let r = i % 4 in
@@ -344,43 +348,19 @@ placed-word f i h =
     let d′ : (2 * i + 1) / 8 * 64 + (2 * i + 1) % 2 * 32 ≡ g * 64 + 32 = omega arith in
     let u′ : (2 * i + 1) % 8 / 2 ≡ r = omega arith in
     ap₂ (λ (x y : ℕ). x * 2 ^ 64 + y)
-    (ap (λ (v : ℕ). v % 2 ^ 62) (getD-tabulate 768 (numberAt f) (2 * i) 0 (omega arith) ∙ λ k. gathered 32 (((λ n. a n % 8 * 63 + 3 + z n * 28) ∙ l) k) (drop (d k) f) (u k))
+    (ap (λ (v : ℕ). v % 2 ^ 62) (getD-tabulate 768 (gatheredAt f) (2 * i) 0 (omega arith) ∙ λ k. gathered 32 (((λ n. a n % 8 * 63 + 3 + z n * 28) ∙ l) k) (drop (d k) f) (u k))
     ∙ placed-upper f g r (omega arith) (omega arith) i e)
-    (getD-tabulate 768 (numberAt f) (2 * i + 1) 0 (omega arith) ∙ (λ k. gathered 32 (((λ n. a′ n % 8 * 63 + 3 + z′ n * 28) ∙ l′) k) (drop (d′ k) f) (u′ k))
+    (getD-tabulate 768 (gatheredAt f) (2 * i + 1) 0 (omega arith) ∙ (λ k. gathered 32 (((λ n. a′ n % 8 * 63 + 3 + z′ n * 28) ∙ l′) k) (drop (d′ k) f) (u′ k))
     ∙ placed-lower f g r (omega arith) (omega arith) i e)
     ∙ div-add-mod' (placedWord f i) (2 ^ 64)
 
--- ---- the words turned back
+-- ---- the words with their bits back from their places
 
-row-cong : (n : ℕ) (f g : ℕ → ℕ) → ((i : ℕ) → i < n → f i ≡ g i) → rowOf n f ≡ rowOf n g
-unfolding halfOf
-row-cong n f g h =
-    tabulate-cong (2 * n) (halfOf f) (halfOf g)
-    (λ j l. ap (λ (v : ℕ). cond (eqb (j % 2) 0) (v / 2 ^ 64) (v % 2 ^ 64)) (h (j / 2) (omega arith)))
-
--- turned by 90 p places, each bit is again where it was before the shuffle
-back-place : (p r : ℕ) → back (90 * p % 110) r ≡ place p r
-unfolding back place
-back-place p r = go (decLt r 110)
-  where
-    go : Dec (r < 110) → cond (ltb r 110) ((r + (110 - 90 * p % 110)) % 110) r ≡ cond (ltb r 110) ((r + 20 * p) % 110) r
-    go (yes h) = rw (lt-ltb r 110 h) (omega arith)
-    go (no h) = rw (le-ltb r 110 (omega arith))
-
-back-lt : (n r : ℕ) → r < 126 → back n r < 126
-unfolding back
-back-lt n r h = go (decLt r 110)
-  where
-    go : Dec (r < 110) → cond (ltb r 110) ((r + (110 - n)) % 110) r < 126
-    go (yes l) = rw (lt-ltb r 110 l) (omega arith)
-    go (no l) = rw (le-ltb r 110 (omega arith)) h
-
-pub words-is : (f p : List ℕ) → p ≡ tabulate 768 (numberAt f) → turnedRow 90 p ≡ wordsOf f
-unfolding turnedRow wordsOf arrived turned placedBit
+pub words-is : (f p : List ℕ) → p ≡ tabulate 768 (gatheredAt f) → unshuffled p ≡ wordsOf f
+unfolding unshuffled wordsOf arrived placedBit
 words-is f p e =
-    ap (turnedRow 90) e
+    ap unshuffled e
     ∙ row-cong 384 _ _ (λ i h.
-    ap (turned (90 * (i % 32) % 110)) (placed-word f i h)
-    ∙ value-cong 2 126 _ _ (λ r l.
-    bit-number 126 (placedBit f (i / 32) (i % 32)) (λ q _. bitAt-lt f _) (back (90 * (i % 32) % 110) r) (back-lt (90 * (i % 32) % 110) r l)
-    ∙ ap (placedBit f (i / 32) (i % 32)) (back-place (i % 32) r)))
+    value-cong 2 126 _ _ (λ q l.
+    ap (λ (w : ℕ). bitOf 126 w (place (i % 32) q)) (placed-word f i h)
+    ∙ bit-number 126 (placedBit f (i / 32) (i % 32)) (λ r _. bitAt-lt f _) (place (i % 32) q) (place-lt (i % 32) q l)))

@@ -1,8 +1,4 @@
-pub mod Levels
-pub mod Pilots
 pub mod Places
-pub mod Turning
-pub mod Entries
 pub mod Symbols
 pub mod Gathering
 pub mod Return

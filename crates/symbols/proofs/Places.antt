@@ -1,5 +1,5 @@
--- Shuffle and mapping undone: `unplace` is the inverse of `place`, and each place of a lane is met once, in its symbol and its tributary. Each 63 payload
--- symbols carry four whole words, two bits of each word in each symbol.
+-- The mapping undone: each place of a lane is met once, in its symbol and its tributary. Each 63 payload symbols carry four whole words, two bits of each
+-- word in each symbol.
 -- Assumes nothing.
 use mathlib.Core.Path.{_≡_, sym, ap, ap₂, _∙_}
 use mathlib.Core.Bool.{Bool, true, cond}
@@ -9,58 +9,12 @@ use native.Mathlib.Decide.{decLt, ℕ-discrete}
 use native.Mathlib.Omega.{arith}
 use lib.Dec.{T, eqb, eqb→eq}
 use borrow.Author.Tests.{lt-ltb, le-ltb, eq-eqb, ne-eqb, eqb-true}
-use Rattle.bits.specs.Bits.{count}
+use Rattle.bits.specs.definitions.Bits.{count}
 use Rattle.bits.proofs.Table.{each, range-rule}
 use Rattle.bits.proofs.Count.{count-inject}
-use Rattle.symbols.specs.Mapping.{place, unplace, laneOf, upper, lower, symbolOf, tributaryOf, bitIn}
-
--- ---- the shuffle
-
-place-in : (p q : ℕ) → q < 110 → place p q ≡ (q + 20 * p) % 110
-unfolding place
-place-in p q h = rw (lt-ltb q 110 h)
-
-place-out : (p q : ℕ) → 110 ≤ q → place p q ≡ q
-unfolding place
-place-out p q h = rw (le-ltb q 110 h)
-
-unplace-in : (p r : ℕ) → r < 110 → unplace p r ≡ (r + 90 * p) % 110
-unfolding unplace
-unplace-in p r h = rw (lt-ltb r 110 h)
-
-unplace-out : (p r : ℕ) → 110 ≤ r → unplace p r ≡ r
-unfolding unplace
-unplace-out p r h = rw (le-ltb r 110 h)
-
-pub unplace-place : (p q : ℕ) → unplace p (place p q) ≡ q
-unplace-place p q = go (decLt q 110)
-  where
-    go : Dec (q < 110) → unplace p (place p q) ≡ q
-    go (yes h) = ap (unplace p) (place-in p q h) ∙ unplace-in p ((q + 20 * p) % 110) (omega arith) ∙ omega arith
-    go (no h) = ap (unplace p) (place-out p q (omega arith)) ∙ unplace-out p q (omega arith)
-
-pub place-unplace : (p r : ℕ) → place p (unplace p r) ≡ r
-place-unplace p r = go (decLt r 110)
-  where
-    go : Dec (r < 110) → place p (unplace p r) ≡ r
-    go (yes h) = ap (place p) (unplace-in p r h) ∙ place-in p ((r + 90 * p) % 110) (omega arith) ∙ omega arith
-    go (no h) = ap (place p) (unplace-out p r (omega arith)) ∙ place-out p r (omega arith)
-
-pub place-lt : (p q : ℕ) → q < 126 → place p q < 126
-place-lt p q h = go (decLt q 110)
-  where
-    go : Dec (q < 110) → place p q < 126
-    go (yes l) = rw (place-in p q l) (omega arith)
-    go (no l) = rw (place-out p q (omega arith)) h
-
-pub unplace-lt : (p r : ℕ) → r < 126 → unplace p r < 126
-unplace-lt p r h = go (decLt r 110)
-  where
-    go : Dec (r < 110) → unplace p r < 126
-    go (yes l) = rw (unplace-in p r l) (omega arith)
-    go (no l) = rw (unplace-out p r (omega arith)) h
-
--- ---- the mapping
+use Rattle.shuffle.specs.definitions.Shuffle.{place, unplace}
+use Rattle.shuffle.proofs.Places.{unplace-place, place-unplace, place-lt, unplace-lt}
+use Rattle.symbols.specs.definitions.Mapping.{laneOf, upper, lower, symbolOf, tributaryOf, bitIn}
 
 module _ (p r : ℕ) (h : p < 32) (l : r < 126) where
   pub symbol-lt : symbolOf p r < 504

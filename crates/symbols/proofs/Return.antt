@@ -11,17 +11,20 @@ use lib.Arith.{digits-lt, digits-div, digits-mod}
 use lib.Dec.{eqb, ltb}
 use lib.ListN.{length, getD}
 use borrow.Author.Tests.{lt-ltb, eq-eqb, ne-eqb}
-use Rattle.bits.specs.Bits.{bitOf, bitAt, AllBytes}
-use Rattle.bits.specs.Words.{wordOf, wordAt, halfOf, rowOf}
+use Rattle.bits.specs.definitions.Bits.{bitOf, bitAt, AllBytes}
+use Rattle.bits.specs.definitions.Words.{wordOf, wordAt, halfOf, rowOf}
 use Rattle.bits.proofs.Tabulate.{length-tabulate, getD-tabulate, is-tabulate}
 use Rattle.bits.proofs.Value.{value-cong, value-lt, bit-lt, bit-number, number-bits}
 use Rattle.bits.proofs.Count.{count-none}
 use Rattle.bits.proofs.Fields.{bitAt-lt, bitAt-byte}
 use Rattle.bits.proofs.Words.{row-at}
-use Rattle.symbols.specs.Mapping.{place, unplace, laneOf, upper, lower, payloadAt, symbolOf, bitIn}
-use Rattle.symbols.specs.Pilots.{pilots, met, wrongPilots, lockLimit, locks}
-use Rattle.symbols.specs.Frame.{carriedBit, payload, symbolAt, frameOf, placedBit, arrived, wordsOf}
-use Rattle.symbols.proofs.Places.{unplace-place, place-unplace, place-lt, unplace-lt, symbol-lt, bitIn-lt, lane-back, place-back, lane-lt, symbol-back, bit-back}
+use Rattle.shuffle.specs.definitions.Shuffle.{place, unplace}
+use Rattle.symbols.specs.definitions.Mapping.{laneOf, upper, lower, payloadAt, symbolOf, bitIn}
+use Rattle.pilots.specs.definitions.Table5.{pilots}
+use Rattle.pilots.specs.definitions.Pilots.{met, wrongPilots, lockLimit, locks}
+use Rattle.symbols.specs.definitions.Frame.{carriedBit, payload, symbolAt, frameOf, placedBit, arrived, wordsOf}
+use Rattle.shuffle.proofs.Places.{unplace-place, place-unplace, place-lt, unplace-lt}
+use Rattle.symbols.proofs.Places.{symbol-lt, bitIn-lt, lane-back, place-back, lane-lt, symbol-back, bit-back}
 
 -- ---- payload symbols in the frame
 

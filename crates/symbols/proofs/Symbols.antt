@@ -1,4 +1,4 @@
--- From words to symbols: a symbol's byte from the numbers of four lanes, and the frame of words that were turned.
+-- From words to symbols: a symbol's byte from the numbers of four lanes, and the frame of words that were shuffled.
 -- Assumes nothing.
 use mathlib.Core.Path.{_≡_, refl, sym, ap, ap₂, _∙_, subst}
 use mathlib.Core.Bool.{cond}
@@ -11,16 +11,18 @@ use lib.Dec.{eqb, ltb}
 use lib.ListN.{getD, set}
 use lib.Pow.{pow-add}
 use borrow.Author.Tests.{eq-eqb, ne-eqb, lt-ltb, le-ltb}
-use Rattle.bits.specs.Bits.{tabulate, value, number, bitOf}
-use Rattle.bits.specs.Words.{wordAt, rowOf, halfOf}
+use Rattle.bits.specs.definitions.Bits.{tabulate, value, number, bitOf}
+use Rattle.bits.specs.definitions.Words.{wordAt, rowOf, halfOf}
 use Rattle.bits.proofs.Tabulate.{getD-tabulate, tabulate-cong}
-use Rattle.bits.proofs.Filling.{Filling, filling-turn, filling-at}
+use Rattle.bits.proofs.Filling.{Filling, filling-step, filling-at}
 use Rattle.bits.proofs.Value.{value-cong, value-lt, value-top, value-low, bit-lt, bit-number, number-bits}
-use Rattle.symbols.specs.Mapping.{unplace, laneOf, upper, lower}
-use Rattle.symbols.specs.Pilots.{pilots}
-use Rattle.symbols.specs.Frame.{carriedBit, payload, symbolAt, frameOf}
-use Rattle.symbols.specs.Tables.{back, turned, turnedRow, laneIn, tributaryIn, partOf, castOf, IsCast, numberOf, quadAt, symbolFrom, fourFrom, rowBit, groupSymbol, mappedAt}
-use Rattle.symbols.proofs.Entries.{mapped, parts-whole}
+use Rattle.shuffle.specs.definitions.Shuffle.{unplace, shuffled}
+use Rattle.symbols.specs.definitions.Mapping.{laneOf, upper, lower}
+use Rattle.pilots.specs.definitions.Table5.{pilots}
+use Rattle.symbols.specs.definitions.Frame.{carriedBit, payload, symbolAt, frameOf}
+use Rattle.mapper_tables.specs.private.Tables.{laneIn, tributaryIn, partOf, partsOf, IsParts}
+use Rattle.symbols.specs.private.Numbers.{numberOf, quadAt, symbolFrom, fourSymbols, rowBit, groupSymbol, mappedAt}
+use Rattle.mapper_tables.proofs.Entries.{mapped, parts-whole}
 
 -- ---- a symbol's number by its remainder, and the table
 
@@ -58,9 +60,9 @@ part-at l x r d =
     let e : (l % 4 + x) % 4 ≡ (l + x) % 4 = omega arith in
     sym (part-mod (l % 4 + x) r d) ∙ ap (λ (m : ℕ). partOf m r d) e ∙ part-mod (l + x) r d
 
-pub cast-at : (t : List ℕ) (l r b : ℕ) → IsCast t → r < 4 → b < 256 → getD t (1024 * (l % 4) + 256 * r + b) 0 ≡ castOf l r b
-unfolding castOf
-cast-at t l r b C h c =
+pub parts-at : (t : List ℕ) (l r b : ℕ) → IsParts t → r < 4 → b < 256 → getD t (1024 * (l % 4) + 256 * r + b) 0 ≡ partsOf l r b
+unfolding partsOf
+parts-at t l r b C h c =
     C .entry (l % 4) r b (omega arith) h c
     ∙ λ k. part-mod l r (b / 64) k * 2 ^ 24 + part-at l 1 r (b / 16 % 4) k * 2 ^ 16 + part-at l 2 r (b / 4 % 4) k * 2 ^ 8 + part-at l 3 r (b % 4) k
 
@@ -123,8 +125,8 @@ record Digits (m l : ℕ) (w : ℕ → ℕ) (v : ℕ) : Type 0 where
   pub third : v / 256 % 256 ≡ symbolFrom (m + 4) l w 2
   pub fourth : v % 256 ≡ symbolFrom (m + 4) l w 3
 
-digits : (m l : ℕ) (w : ℕ → ℕ) (v : ℕ) → v ≡ fourFrom m l w → Digits m l w v
-unfolding fourFrom
+digits : (m l : ℕ) (w : ℕ → ℕ) (v : ℕ) → v ≡ fourSymbols m l w → Digits m l w v
+unfolding fourSymbols
 digits m l w v e =
     let a = symbol-lt (m + 4) l w 0 in
     let b = symbol-lt (m + 4) l w 1 in
@@ -160,9 +162,9 @@ module _ (m l : ℕ) (w : ℕ → ℕ) where
       parts-sum (l + x) (d 0) (d 1) (d 2) (d 3) (small 0) (small 1) (small 2) (small 3)
       ∙ symbol-law (m + 4) x w l _ (omega arith) (λ k. sym (e 0) k * 64 + sym (e 1) k * 16 + sym (e 2) k * 4 + sym (e 3) k)
 
-  pub four-law : castOf l 0 (byteOf 0) + castOf l 1 (byteOf 1) + castOf l 2 (byteOf 2) + castOf l 3 (byteOf 3) ≡ fourFrom m l w
-  unfolding castOf fourFrom
-  four-law =
+  pub four-symbols-law : partsOf l 0 (byteOf 0) + partsOf l 1 (byteOf 1) + partsOf l 2 (byteOf 2) + partsOf l 3 (byteOf 3) ≡ fourSymbols m l w
+  unfolding partsOf fourSymbols
+  four-symbols-law =
       let z : l + 0 ≡ l = omega arith in
       let c0 = column 0 (λ r. byteOf r / 64) (omega arith) (λ r. omega arith) (λ r. pair-0 (w r) m) in
       let s0 : partOf l 0 (byteOf 0 / 64) + partOf l 1 (byteOf 1 / 64) + partOf l 2 (byteOf 2 / 64) + partOf l 3 (byteOf 3 / 64) ≡ symbolFrom (m + 4) l w 0 =
@@ -182,18 +184,18 @@ symbol-on n l i w x h =
     ∙ (let d : 2 * n - 1 - (2 * x + (k + (l + (i + x))) % 2) ≡ 2 * (n + i) - 1 - (2 * (i + x) + (k + (l + (i + x))) % 2) = omega arith in
     ap (λ (y : ℕ). w (laneIn (l + (i + x)) (k / 2)) / 2 ^ y % 2) d))
 
--- a turn that stores four symbols
-pub fill-turn : (n l : ℕ) (w : ℕ → ℕ) {out₀ out : List ℕ} (i v : ℕ) → i + 4 ≤ n → v ≡ fourFrom (n - (i + 4)) (l + i) w
+-- a step that stores four symbols
+pub fill-step : (n l : ℕ) (w : ℕ → ℕ) {out₀ out : List ℕ} (i v : ℕ) → i + 4 ≤ n → v ≡ fourSymbols (n - (i + 4)) (l + i) w
     → Filling (symbolFrom n l w) n out₀ out i
     → Filling (symbolFrom n l w) n out₀
     (set (set (set (set out i (v / 16777216 % 256)) (i + 1) (v / 65536 % 256)) (i + 2) (v / 256 % 256)) (i + 3) (v % 256)) (i + 4)
-fill-turn n l w {out₀} {out} i v h e F =
+fill-step n l w {out₀} {out} i v h e F =
     let z : i + 3 + 1 ≡ i + 4 = omega arith in
     subst (Filling (symbolFrom n l w) n out₀ _) z
     (filling-at f (i + 3) (v % 256) (omega arith)
     (filling-at f (i + 2) (v / 256 % 256) (omega arith)
-    (filling-turn f (v / 65536 % 256)
-    (filling-turn f (v / 16777216 % 256) F (omega arith) (D .first ∙ on 0 (omega arith) ∙ ap f (let y : i + 0 ≡ i = omega arith in y)))
+    (filling-step f (v / 65536 % 256)
+    (filling-step f (v / 16777216 % 256) F (omega arith) (D .first ∙ on 0 (omega arith) ∙ ap f (let y : i + 0 ≡ i = omega arith in y)))
     (omega arith) (D .second ∙ on 1 (omega arith)))
     (omega arith) (D .third ∙ on 2 (omega arith)))
     (omega arith) (D .fourth ∙ on 3 (omega arith)))
@@ -264,18 +266,18 @@ module _ (s : List ℕ) (g : ℕ) where
           (further j u h hu (numberOf (quadAt s (g * 8)) r) ∙ ap (λ (v : ℕ). bitOf 62 v (2 * j + u)) (quad-number s (g * 8) r hr ∙ ap (λ (x : ℕ). getD s x 0) e))
 
   -- the first four symbols: the pilot, and three behind it
-  pub head-turn : {out₀ out : List ℕ} (x v : ℕ) → g < 96 → x ≡ getD pilots g 0 → v ≡ fourFrom 28 (g % 8 * 63 + 3) (numberOf (quadAt s (g * 8)))
+  pub head-step : {out₀ out : List ℕ} (x v : ℕ) → g < 96 → x ≡ getD pilots g 0 → v ≡ fourSymbols 28 (g % 8 * 63 + 3) (numberOf (quadAt s (g * 8)))
       → Filling (mappedAt s) 6144 out₀ out (g * 64)
       → Filling (mappedAt s) 6144 out₀
       (set (set (set (set out (g * 64) x) (g * 64 + 1) (v / 65536 % 256)) (g * 64 + 2) (v / 256 % 256)) (g * 64 + 3) (v % 256)) (g * 64 + 4)
-  head-turn {out₀} {out} x v h p e F =
+  head-step {out₀} {out} x v h p e F =
       let D = digits 28 (g % 8 * 63 + 3) (numberOf (quadAt s (g * 8))) v e in
       let z : g * 64 + 3 + 1 ≡ g * 64 + 4 = omega arith in
       let f = mappedAt s in
       subst (Filling (mappedAt s) 6144 out₀ _) z
       (filling-at f (g * 64 + 3) (v % 256) (omega arith)
       (filling-at f (g * 64 + 2) (v / 256 % 256) (omega arith)
-      (filling-turn f (v / 65536 % 256) (filling-turn f x F (omega arith) (p ∙ pilot-is))
+      (filling-step f (v / 65536 % 256) (filling-step f x F (omega arith) (p ∙ pilot-is))
       (omega arith) (D .second ∙ upper-is 0 (omega arith) ∙ ap f (let y : g * 64 + 1 + 0 ≡ g * 64 + 1 = omega arith in y)))
       (omega arith) (D .third ∙ upper-is 1 (omega arith) ∙ ap f (let y : g * 64 + 1 + 1 ≡ g * 64 + 2 = omega arith in y)))
       (omega arith) (D .fourth ∙ upper-is 2 (omega arith) ∙ ap f (let y : g * 64 + 1 + 2 ≡ g * 64 + 3 = omega arith in y)))
@@ -306,7 +308,7 @@ module _ (s : List ℕ) (g : ℕ) where
           rw (le-ltb (2 * (31 + k) + u) 62 (omega arith))
           (ap₂ (bitOf 64) (quad-number s (g * 8 + 1) r hr ∙ ap (λ (x : ℕ). getD s x 0) e) d)
 
--- ---- the frame of words that were turned by 20 places a lane
+-- ---- the frame of words that were shuffled
 
 -- bit r of word i of a row
 row-bit : (n : ℕ) (F : ℕ → ℕ) (i r : ℕ) → i < n → F i < 2 ^ 126 → r < 126 → rowBit (rowOf n F) i r ≡ bitOf 126 (F i) r
@@ -339,23 +341,6 @@ row-bit n F i r h l b = go (decLt r 62)
         let e : 62 + (r - 62) ≡ r = omega arith in
         rw (le-ltb r 62 (omega arith), lo) (bit-number 64 (λ k. f (62 + k)) (λ k _. bit-lt 126 (F i) (62 + k)) (r - 62) (omega arith) ∙ ap f e)
 
-turned-lt-126 : (n w : ℕ) → turned n w < 2 ^ 126
-unfolding turned
-turned-lt-126 n w = value-lt 2 126 _ (λ r _. bit-lt 126 w (back n r))
-
-turned-bit : (n w r : ℕ) → r < 126 → bitOf 126 (turned n w) r ≡ bitOf 126 w (back n r)
-unfolding turned
-turned-bit n w r h = bit-number 126 _ (λ q _. bit-lt 126 w (back n q)) r h
-
--- turned by 20 p places, the bit that stands at place r is that of the shuffle
-back-place : (p r : ℕ) → back (20 * p % 110) r ≡ unplace p r
-unfolding back unplace
-back-place p r = go (decLt r 110)
-  where
-    go : Dec (r < 110) → cond (ltb r 110) ((r + (110 - 20 * p % 110)) % 110) r ≡ cond (ltb r 110) ((r + 90 * p) % 110) r
-    go (yes h) = rw (lt-ltb r 110 h) (omega arith)
-    go (no h) = rw (le-ltb r 110 (omega arith))
-
 module _ (s : List ℕ) (g j : ℕ) (h : g < 96) (b : j < 63) where
   -- its lane, in the frame's words and in the mapping
   lane-is : (t : ℕ) → laneOf (g % 8 * 63 + j) t ≡ (4 * g + laneIn (g % 8 * 63 + j) t) % 32
@@ -382,8 +367,8 @@ module _ (s : List ℕ) (g j : ℕ) (h : g < 96) (b : j < 63) where
       go (yes e) = rw (eq-eqb (i % 2) 0 e) (omega arith)
       go (no e) = rw (ne-eqb (i % 2) 0 e) (omega arith)
 
-  group-is : groupSymbol (turnedRow 20 s) g j ≡ payload s (63 * g + j)
-  unfolding groupSymbol payload carriedBit turnedRow
+  group-is : groupSymbol (shuffled s) g j ≡ payload s (63 * g + j)
+  unfolding groupSymbol payload carriedBit shuffled
   group-is =
       value-cong 2 8 _ _ at
       ∙ (let d : g / 8 ≡ (63 * g + j) / 504 = omega arith in
@@ -394,32 +379,31 @@ module _ (s : List ℕ) (g j : ℕ) (h : g < 96) (b : j < 63) where
       l = g % 8 * 63 + j
 
       F : ℕ → ℕ
-      F i = turned (20 * (i % 32) % 110) (wordAt s i)
+      F i = number 126 (λ r. bitOf 126 (wordAt s i) (unplace (i % 32) r))
 
       at : (i : ℕ) → i < 8 → rowBit (rowOf 384 F) (4 * g + laneIn l (i / 2)) (2 * j + (i + l) % 2) ≡ carriedBit s (g / 8) l i
       at i c =
           let x = 4 * g + laneIn l (i / 2) in
           let r = 2 * j + (i + l) % 2 in
           let lt : r < 126 = omega arith in
-          row-bit 384 F x r (omega (arith, lane-lt l (i / 2))) (turned-lt-126 (20 * (x % 32) % 110) (wordAt s x)) lt
-          ∙ turned-bit (20 * (x % 32) % 110) (wordAt s x) r lt
-          ∙ ap (bitOf 126 (wordAt s x)) (back-place (x % 32) r)
+          row-bit 384 F x r (omega (arith, lane-lt l (i / 2))) (value-lt 2 126 _ (λ q _. bit-lt 126 (wordAt s x) _)) lt
+          ∙ bit-number 126 _ (λ q _. bit-lt 126 (wordAt s x) _) r lt
           ∙ (λ k. bitOf 126 (wordAt s (sym (word-is (i / 2)) k)) (unplace (sym (lane-is (i / 2)) k) (sym (place-is i) k)))
 
--- symbol by symbol the frame of the row that was turned is the frame of the row
-mapped-is : (s : List ℕ) (t : ℕ) → t < 6144 → mappedAt (turnedRow 20 s) t ≡ symbolAt s t
+-- symbol by symbol the frame of the row that was shuffled is the frame of the row
+mapped-is : (s : List ℕ) (t : ℕ) → t < 6144 → mappedAt (shuffled s) t ≡ symbolAt s t
 unfolding mappedAt symbolAt
 mapped-is s t h = go (ℕ-discrete (t % 64) 0)
   where
     go : Dec (t % 64 ≡ 0)
-        → cond (eqb (t % 64) 0) (getD pilots (t / 64) 0) (groupSymbol (turnedRow 20 s) (t / 64) (t % 64 - 1))
+        → cond (eqb (t % 64) 0) (getD pilots (t / 64) 0) (groupSymbol (shuffled s) (t / 64) (t % 64 - 1))
         ≡ cond (eqb (t % 64) 0) (getD pilots (t / 64) 0) (payload s (63 * (t / 64) + t % 64 - 1))
     go (yes e) = rw (eq-eqb (t % 64) 0 e)
     go (no e) =
         let z : 63 * (t / 64) + (t % 64 - 1) ≡ 63 * (t / 64) + t % 64 - 1 = omega arith in
         rw (ne-eqb (t % 64) 0 e) (group-is s (t / 64) (t % 64 - 1) (omega arith) (omega arith) ∙ ap (payload s) z)
 
--- the frame of the row that was turned
-pub frame-is : (s p : List ℕ) → p ≡ turnedRow 20 s → tabulate 6144 (mappedAt p) ≡ frameOf s
+-- the frame of the row that was shuffled
+pub frame-is : (s p : List ℕ) → p ≡ shuffled s → tabulate 6144 (mappedAt p) ≡ frameOf s
 unfolding frameOf
 frame-is s p e = ap (λ (r : List ℕ). tabulate 6144 (mappedAt r)) e ∙ tabulate-cong 6144 _ _ (mapped-is s)

@@ -1,5 +1,2 @@
-pub mod Mapping
-pub mod Levels
-pub mod Pilots
-pub mod Frame
-pub mod Tables
+pub mod definitions
+pub mod private

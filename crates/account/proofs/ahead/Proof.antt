@@ -1,6 +1,6 @@
 -- `account::ahead` meets its contract. Assumes nothing.
 use native.Mathlib.Omega.{arith}
-use Rattle.account.specs.Account.{ahead}
+use Rattle.account.specs.definitions.Account.{ahead}
 use borrow.Author.Needs.{needs}
 use Rattle.account.proofs.ahead.Statement.{statement}
 use Rattle.account.proofs.ahead.Tie as tie

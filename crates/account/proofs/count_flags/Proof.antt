@@ -5,7 +5,7 @@ use native.Mathlib.Numerals.{add-one}
 use native.Mathlib.Omega.{arith}
 use lib.Dec.{eqb}
 use lib.ListN.{getD}
-use Rattle.bits.specs.Bits.{count}
+use Rattle.bits.specs.definitions.Bits.{count}
 use Rattle.bits.proofs.Count.{count-le}
 use borrow.Author.Needs.{needs}
 use Rattle.account.proofs.count_flags.Statement.{statement}

@@ -1,7 +1,7 @@
 -- `account::enter` meets its contract: each return by the tests that led there. Assumes nothing.
 use mathlib.Core.Path.{sym, ap, _∙_}
 use borrow.Author.Tests.{not-true, not-false}
-use Rattle.account.specs.Account.{late}
+use Rattle.account.specs.definitions.Account.{late}
 use Rattle.account.proofs.Entered.{frame-late, frame-over, frame-short, frame-done}
 use borrow.Author.Needs.{needs}
 use Rattle.account.proofs.enter.Statement.{statement}

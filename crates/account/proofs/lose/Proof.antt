@@ -1,6 +1,6 @@
 -- `account::lose` meets its contract: each return by the tests that led there. Assumes nothing.
 use mathlib.Core.Path.{sym, ap, _∙_}
-use Rattle.account.specs.Account.{late}
+use Rattle.account.specs.definitions.Account.{late}
 use Rattle.account.proofs.Entered.{loss-late, loss-over, loss-done}
 use borrow.Author.Needs.{needs}
 use Rattle.account.proofs.lose.Statement.{statement}

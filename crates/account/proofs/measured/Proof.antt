@@ -1,5 +1,5 @@
 -- `account::measured` meets its contract: each return by the tests that led there. Assumes nothing.
-use Rattle.account.proofs.Judged.{none-asked, not-accepted, some-missing, right-total}
+use Rattle.account.proofs.VerdictMeaning.{none-asked, not-accepted, some-missing, right-total}
 use borrow.Author.Needs.{needs}
 use Rattle.account.proofs.measured.Statement.{statement}
 use Rattle.account.proofs.measured.Tie as tie

@@ -1,6 +1,6 @@
 -- `account::over` meets its contract: each return by the tests that led there. Assumes nothing.
 use mathlib.Core.Path.{refl, sym, _∙_}
-use Rattle.account.specs.Account.{over}
+use Rattle.account.specs.definitions.Account.{over}
 use borrow.Author.Needs.{needs}
 use Rattle.account.proofs.over.Statement.{statement}
 use Rattle.account.proofs.over.Tie as tie

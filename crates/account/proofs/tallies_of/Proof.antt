@@ -1,6 +1,6 @@
 -- `account::tallies_of` meets its contract: four counts. Assumes nothing.
 use mathlib.Core.Path.{refl}
-use Rattle.account.specs.Account.{counted}
+use Rattle.account.specs.definitions.Account.{counted}
 use borrow.Author.Needs.{needs}
 use Rattle.account.proofs.tallies_of.Statement.{statement}
 use Rattle.account.proofs.tallies_of.Tie as tie

@@ -1,6 +1,6 @@
 -- `account::verdict_number` meets its contract, case by case. Assumes nothing.
 use mathlib.Core.Path.{sym, ap}
-use Rattle.account.specs.Account.{verdictNumber}
+use Rattle.account.specs.definitions.Account.{verdictNumber}
 use borrow.Author.Needs.{needs}
 use Rattle.account.proofs.verdict_number.Statement.{statement}
 use Rattle.account.proofs.verdict_number.Tie as tie

@@ -3,8 +3,8 @@ use mathlib.Core.Path.{ap, _∙_}
 use Prim.Native.Nat.{ℕ}
 use native.Mathlib.Omega.{arith}
 use borrow.Author.Tests.{not-true, not-false}
-use Rattle.account.specs.Account.{measured}
-use Rattle.account.proofs.Judged.{stopped-run, not-measured, passes, fails}
+use Rattle.account.specs.definitions.Account.{measured}
+use Rattle.account.proofs.VerdictMeaning.{stopped-run, not-measured, passes, fails}
 use borrow.Author.Needs.{needs}
 use Rattle.account.proofs.verdict_of.Statement.{statement}
 use Rattle.account.proofs.verdict_of.Tie as tie

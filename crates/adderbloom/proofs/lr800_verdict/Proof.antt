@@ -1,6 +1,6 @@
 -- `adderbloom::lr800_verdict` meets its contract: the number of the verdict. Assumes nothing.
 use mathlib.Core.Path.{ap, _∙_}
-use Rattle.account.specs.Account.{verdictNumber}
+use Rattle.account.specs.definitions.Account.{verdictNumber}
 use borrow.Author.Needs.{needs}
 use Rattle.adderbloom.proofs.lr800_verdict.Statement.{statement}
 use Rattle.adderbloom.proofs.lr800_verdict.Tie as tie

@@ -3,11 +3,11 @@ use mathlib.Core.List.{List}
 use Prim.Native.Nat.{ℕ, _+_, _*_, _-_, _<_, _^_}
 use lib.ListN.{getD, length-set}
 use Rattle.bits.proofs.Filling.{Filling, filling-start, filling-done}
-use Rattle.bch.specs.Code.{coded}
-use Rattle.bits.specs.Words.{wordAt, halfOf}
-use Rattle.bch.specs.Word.{informationOf, codedFrame}
-use Rattle.bits.proofs.Words.{row-word, row-turn}
-use Rattle.bch.proofs.Halves.{parity-lt, coded-halves}
+use Rattle.bch.specs.definitions.Code.{coded}
+use Rattle.bits.specs.definitions.Words.{wordAt, halfOf}
+use Rattle.bch.specs.definitions.Word.{informationOf, codedFrame}
+use Rattle.bits.proofs.Words.{row-word, row-step}
+use Rattle.bch.proofs.Sent.{parity-lt, coded-halves}
 use native.Mathlib.Omega.{arith}
 use Rattle.bch.proofs.encode_words.Statement.{statement}
 use Rattle.bch.proofs.encode_words.Tie as tie
@@ -87,7 +87,7 @@ loop-again c =
     let s = c .before .before .before .before .before .before .args .words .now in
     let small : getD (at .words) (2 * at .i + 1) 0 < 2 ^ 64 = omega (arith, c .before .slice-known3 .given (2 * at .i + 1)) in
     let h = coded-halves _ _ (wordAt s (at .i)) _ small (row-word (sent s) (at .i) (at .inv)) (c .parity .ensures) in
-    row-turn (sent s) (at .i) (at .inv) _ _ (omega arith) (h .0) (h .1)
+    row-step (sent s) (at .i) (at .inv) _ _ (omega arith) (h .0) (h .1)
 
 same-length : tie.Need-same-length Inv-loop μ-loop
 same-length c = omega arith

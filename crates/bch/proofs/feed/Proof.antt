@@ -2,8 +2,8 @@
 use mathlib.Core.Path.{_≡_, _∙_}
 use Prim.Native.Nat.{_≤_, _<_, _-_, _/_, _^_}
 use native.Mathlib.Nat.{sub-self, sub-zero, pow-zero, div-one}
-use Rattle.bch.specs.Code.{feedOf}
-use Rattle.bch.proofs.Pieces.{feed-turn}
+use Rattle.bch.specs.definitions.Code.{feedOf}
+use Rattle.bch.proofs.Sent.{feed-step}
 use native.Mathlib.Omega.{arith}
 use Rattle.bch.proofs.feed.Statement.{statement}
 use Rattle.bch.proofs.feed.Tie as tie
@@ -32,7 +32,7 @@ loop-less c = omega arith
 
 loop-again : tie.Need-loop-again Inv-loop μ-loop
 loop-again c =
-    let g = feed-turn _ _ _ _ _ _ (c .before .before .before .pre .0) (omega arith) (omega arith) (c .before .before .loop .inv .1) (c .step .ensures) in
+    let g = feed-step _ _ _ _ _ _ (c .before .before .before .pre .0) (omega arith) (omega arith) (c .before .before .loop .inv .1) (c .step .ensures) in
     (omega arith, g .0, g .1)
 
 returns : tie.Need-returns Inv-loop μ-loop

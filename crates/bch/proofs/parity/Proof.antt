@@ -1,6 +1,6 @@
 -- `bch::parity` meets its contract: the first 16 bits, 46 more, then 48 and 16 zeros. Assumes nothing.
 use mathlib.Core.Path.{refl}
-use Rattle.bch.proofs.Pieces.{parity-law}
+use Rattle.bch.proofs.Sent.{parity-law}
 use borrow.Author.Needs.{needs}
 use Rattle.bch.proofs.parity.Statement.{statement}
 use Rattle.bch.proofs.parity.Tie as tie

@@ -3,7 +3,7 @@ use mathlib.Core.Path.{_≡_}
 use Prim.Native.Nat.{_/_}
 use native.Mathlib.Omega.{arith}
 use lib.Bits.{xor-zero-r}
-use Rattle.bch.specs.Code.{stepOf}
+use Rattle.bch.specs.definitions.Code.{stepOf}
 use borrow.Author.Needs.{needs}
 use Rattle.bch.proofs.step.Statement.{statement}
 use Rattle.bch.proofs.step.Tie as tie

@@ -4,7 +4,7 @@ use mathlib.Core.Path.{ap}
 use Prim.Native.Nat.{_-_}
 use borrow.Author.Needs.{needs}
 use lib.ListN.{length}
-use Rattle.bench.specs.Run.{State}
+use Rattle.bench.specs.definitions.Run.{State}
 use Rattle.bench.proofs.Walk.{Ahead, walk-starts, walk-goes, walk-stops, walk-ends}
 use Rattle.bench.proofs.examine_capture.Statement.{statement}
 use Rattle.bench.proofs.examine_capture.Tie as tie

@@ -1,6 +1,6 @@
 -- `bench::goes_on` meets its contract, phase by phase. Assumes nothing.
 use mathlib.Core.Path.{sym, ap}
-use Rattle.bench.specs.Run.{goesOn}
+use Rattle.bench.specs.definitions.Run.{goesOn}
 use borrow.Author.Needs.{needs}
 use Rattle.bench.proofs.goes_on.Statement.{statement}
 use Rattle.bench.proofs.goes_on.Tie as tie

@@ -1,6 +1,6 @@
 -- `bench::is_stopped` meets its contract, phase by phase. Assumes nothing.
 use mathlib.Core.Path.{sym, ap}
-use Rattle.bench.specs.Run.{isStopped}
+use Rattle.bench.specs.definitions.Run.{isStopped}
 use borrow.Author.Needs.{needs}
 use Rattle.bench.proofs.is_stopped.Statement.{statement}
 use Rattle.bench.proofs.is_stopped.Tie as tie

@@ -1,8 +1,8 @@
 -- `bench::verdict_of` meets its contract. Assumes nothing.
 use mathlib.Core.Path.{ap, _∙_}
 use mathlib.Core.Bool.{Bool, not}
-use Rattle.account.specs.Account.{verdict}
-use Rattle.bench.specs.Run.{verdictOf}
+use Rattle.account.specs.definitions.Account.{verdict}
+use Rattle.bench.specs.definitions.Run.{verdictOf}
 use borrow.Author.Needs.{needs}
 use Rattle.bench.proofs.verdict_of.Statement.{statement}
 use Rattle.bench.proofs.verdict_of.Tie as tie

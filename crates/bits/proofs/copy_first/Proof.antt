@@ -2,7 +2,7 @@
 use mathlib.Core.Path.{_≡_, refl}
 use Prim.Native.Nat.{_≤_, _-_}
 use lib.ListN.{length, getD}
-use Rattle.bits.proofs.Filling.{Filling, filling-start, filling-turn, filling-copied}
+use Rattle.bits.proofs.Filling.{Filling, filling-start, filling-step, filling-copied}
 use native.Mathlib.Omega.{arith}
 use Rattle.bits.proofs.copy_first.Statement.{statement}
 use Rattle.bits.proofs.copy_first.Tie as tie
@@ -29,7 +29,7 @@ loop-less : tie.Need-loop-less Inv-loop μ-loop
 loop-less c = omega arith
 
 loop-again : tie.Need-loop-again Inv-loop μ-loop
-loop-again c = (omega arith, filling-turn _ _ (c .before .before .loop .inv .1) (omega arith) refl)
+loop-again c = (omega arith, filling-step _ _ (c .before .before .loop .inv .1) (omega arith) refl)
 
 same-length : tie.Need-same-length Inv-loop μ-loop
 same-length c = omega arith

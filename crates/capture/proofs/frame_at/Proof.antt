@@ -1,7 +1,7 @@
 -- `capture::frame_at` meets its contract: what `refusal_at` answers, or the number and the places.
 -- Assumes nothing.
 use denote.Ref.{now}
-use Rattle.capture.specs.Capture.{layout}
+use Rattle.capture.specs.definitions.Capture.{layout}
 use Rattle.capture.proofs.Cases.{frame-refused, frame-read}
 use Rattle.capture.proofs.Found.{room}
 use borrow.Author.Needs.{needs}
@@ -14,11 +14,11 @@ refusal-at-requires c κs = search needs
 returns : tie.Need-returns
 returns c = frame-refused _ _ _ (search needs) (search needs)
 
-add-four : tie.Need-add-four
-add-four c = search needs
+add-big-endian-at : tie.Need-add-big-endian-at
+add-big-endian-at c = search needs
 
-four-requires : tie.Need-four-requires
-four-requires c κs = room (now (c .before .before .before .args .capture)) (c .before .before .before .args .place) (layout .frameBytes) (layout .frameKind) (layout .numberAt) (search needs) (search needs)
+big-endian-at-requires : tie.Need-big-endian-at-requires
+big-endian-at-requires c κs = room (now (c .before .before .before .args .capture)) (c .before .before .before .args .place) (layout .frameBytes) (layout .frameKind) (layout .numberAt) (search needs) (search needs)
 
 add-t6 : tie.Need-add-t6
 add-t6 c = search needs
@@ -32,4 +32,4 @@ returns-2 c = frame-read _ _ _ (search needs) (search needs)
 pub frame-at-spec : {M : Type 1} → statement M
 frame-at-spec =
     tie.close
-    (tie.spec refusal-at-requires returns add-four four-requires add-t6 add-t7 returns-2)
+    (tie.spec refusal-at-requires returns add-big-endian-at big-endian-at-requires add-t6 add-t7 returns-2)

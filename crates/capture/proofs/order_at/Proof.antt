@@ -1,7 +1,7 @@
 -- `capture::order_at` meets its contract: what `refusal_at` answers, or the numbers.
 -- Assumes nothing.
 use denote.Ref.{now}
-use Rattle.capture.specs.Capture.{layout}
+use Rattle.capture.specs.definitions.Capture.{layout}
 use Rattle.capture.proofs.Cases.{order-refused, order-read}
 use Rattle.capture.proofs.Found.{room}
 use borrow.Author.Needs.{needs}
@@ -14,23 +14,23 @@ refusal-at-requires c κs = search needs
 returns : tie.Need-returns
 returns c = order-refused _ _ _ (search needs) (search needs)
 
-add-four : tie.Need-add-four
-add-four c = search needs
+add-big-endian-at : tie.Need-add-big-endian-at
+add-big-endian-at c = search needs
 
-four-requires : tie.Need-four-requires
-four-requires c κs = room (now (c .before .before .before .args .capture)) (c .before .before .before .args .place) (layout .orderBytes) (layout .orderKind) (layout .startAt) (search needs) (search needs)
+big-endian-at-requires : tie.Need-big-endian-at-requires
+big-endian-at-requires c κs = room (now (c .before .before .before .args .capture)) (c .before .before .before .args .place) (layout .orderBytes) (layout .orderKind) (layout .startAt) (search needs) (search needs)
 
-add-four-2 : tie.Need-add-four-2
-add-four-2 c = search needs
+add-big-endian-at-2 : tie.Need-add-big-endian-at-2
+add-big-endian-at-2 c = search needs
 
-four-requires-2 : tie.Need-four-requires-2
-four-requires-2 c κs = room (now (c .before .before .before .before .args .capture)) (c .before .before .before .before .args .place) (layout .orderBytes) (layout .orderKind) (layout .askedAt) (search needs) (search needs)
+big-endian-at-requires-2 : tie.Need-big-endian-at-requires-2
+big-endian-at-requires-2 c κs = room (now (c .before .before .before .before .args .capture)) (c .before .before .before .before .args .place) (layout .orderBytes) (layout .orderKind) (layout .askedAt) (search needs) (search needs)
 
-add-four-3 : tie.Need-add-four-3
-add-four-3 c = search needs
+add-big-endian-at-3 : tie.Need-add-big-endian-at-3
+add-big-endian-at-3 c = search needs
 
-four-requires-3 : tie.Need-four-requires-3
-four-requires-3 c κs = room (now (c .before .before .before .before .before .args .capture)) (c .before .before .before .before .before .args .place) (layout .orderBytes) (layout .orderKind) (layout .allowedAt) (search needs) (search needs)
+big-endian-at-requires-3 : tie.Need-big-endian-at-requires-3
+big-endian-at-requires-3 c κs = room (now (c .before .before .before .before .before .args .capture)) (c .before .before .before .before .before .args .place) (layout .orderBytes) (layout .orderKind) (layout .allowedAt) (search needs) (search needs)
 
 add-t8 : tie.Need-add-t8
 add-t8 c = search needs
@@ -44,11 +44,11 @@ order-at-spec =
     (tie.spec
     refusal-at-requires
     returns
-    add-four
-    four-requires
-    add-four-2
-    four-requires-2
-    add-four-3
-    four-requires-3
+    add-big-endian-at
+    big-endian-at-requires
+    add-big-endian-at-2
+    big-endian-at-requires-2
+    add-big-endian-at-3
+    big-endian-at-requires-3
     add-t8
     returns-2)

@@ -15,8 +15,8 @@ sub-if2 c = search needs
 returns-2 : tie.Need-returns-2
 returns-2 c = no-length _ _ (search needs) (search needs)
 
-four-requires : tie.Need-four-requires
-four-requires c κs = search needs
+big-endian-at-requires : tie.Need-big-endian-at-requires
+big-endian-at-requires c κs = search needs
 
 order-at-requires : tie.Need-order-at-requires
 order-at-requires c κs = search needs
@@ -40,7 +40,7 @@ read-at-spec =
     returns
     sub-if2
     returns-2
-    four-requires
+    big-endian-at-requires
     order-at-requires
     returns-3
     frame-at-requires

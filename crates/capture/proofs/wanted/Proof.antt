@@ -8,8 +8,8 @@ use Rattle.capture.proofs.wanted.Tie as tie
 returns : tie.Need-returns
 returns c = wanted-first _ (search needs)
 
-four-requires : tie.Need-four-requires
-four-requires c κs = search needs
+big-endian-at-requires : tie.Need-big-endian-at-requires
+big-endian-at-requires c κs = search needs
 
 returns-2 : tie.Need-returns-2
 returns-2 c = wanted-order _ (search needs) (search needs)
@@ -25,7 +25,7 @@ wanted-spec =
     tie.close
     (tie.spec
     returns
-    four-requires
+    big-endian-at-requires
     returns-2
     returns-3
     returns-4)

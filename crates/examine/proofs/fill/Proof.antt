@@ -1,4 +1,4 @@
--- `examine::fill` meets its contract: each turn that goes on leaves less to read, and what stands before stays.
+-- `examine::fill` meets its contract: each step that goes on leaves less to read, and what stands before stays.
 -- Assumes nothing.
 use mathlib.Core.Path.{_≡_, refl, _∙_}
 use Prim.Native.Nat.{_-_, _≤_}

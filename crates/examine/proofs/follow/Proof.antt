@@ -3,8 +3,8 @@
 use mathlib.Core.Path.{_≡_, refl, sym}
 use borrow.Author.Needs.{needs}
 use lib.ListN.{length}
-use Rattle.capture.specs.Capture.{layout}
-use Rattle.bench.proofs.Left.{leftOf}
+use Rattle.capture.specs.definitions.Capture.{layout}
+use Rattle.bench.proofs.Remaining.{remainingOf}
 use Rattle.examine.proofs.Reading.{Reading, answers, answers-failed, reading-starts, reading-goes, reading-less}
 use Rattle.examine.proofs.follow.Statement.{statement}
 use Rattle.examine.proofs.follow.Tie as tie
@@ -13,7 +13,7 @@ abbrev Inv-loop : tie.InvT-loop
 Inv-loop fd store₀ buffer₀ run₀ going₀ store buffer run going = Reading (record { run = run; store = store }) going × (length buffer ≡ layout .frameBytes)
 
 abbrev μ-loop : tie.MeasureT-loop
-μ-loop fd store₀ buffer₀ run₀ going₀ store buffer run going = leftOf run
+μ-loop fd store₀ buffer₀ run₀ going₀ store buffer run going = remainingOf run
 
 begun-requires : tie.Need-begun-requires Inv-loop μ-loop
 begun-requires c κs = search needs

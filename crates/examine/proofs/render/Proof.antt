@@ -1,8 +1,8 @@
 -- `examine::render` meets its contract: no report is longer than the buffer. Assumes nothing.
 use native.Mathlib.Omega.{arith}
 use borrow.Author.Needs.{needs}
-use Rattle.bench.proofs.Lengths.{text-fits}
-use Rattle.bench.proofs.Writing.{text-written}
+use Rattle.report.proofs.Lengths.{text-fits}
+use Rattle.report.proofs.Writing.{text-written}
 use Rattle.examine.proofs.render.Statement.{statement}
 use Rattle.examine.proofs.render.Tie as tie
 

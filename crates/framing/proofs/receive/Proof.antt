@@ -2,7 +2,7 @@
 use mathlib.Core.Path.{sym, ap, _∙_}
 use mathlib.Core.Bool.{Bool, cond}
 use borrow.Author.Tests.{not-true, not-false}
-use Rattle.framing.specs.Call.{base}
+use Rattle.framing.specs.definitions.Call.{base}
 use Rattle.framing.proofs.Receiving.{short-frame, short-store, short-lanes, short-flags, all-lengths, refused, received}
 use borrow.Author.Needs.{needs}
 use Rattle.framing.proofs.receive.Statement.{statement}

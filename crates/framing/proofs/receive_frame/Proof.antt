@@ -1,10 +1,10 @@
 -- `framing::receive_frame` meets its contract: its calls' promises, one after the other. Assumes nothing.
 use mathlib.Core.Path.{ap, _∙_}
-use Rattle.lanes.specs.Words.{wordLanes}
-use Rattle.lanes.specs.Interleaver.{unwovenFrame, unwovenStore}
-use Rattle.bch.specs.Word.{mendedFrame, flagsOf}
-use Rattle.framing.specs.Call.{base}
-use Rattle.framing.specs.Receive.{broughtLanes, receivedFlags}
+use Rattle.lane_words.specs.definitions.LaneWords.{wordLanes}
+use Rattle.lanes.specs.definitions.Interleaver.{deinterleavedFrame, deinterleavedStore}
+use Rattle.decoder.specs.definitions.Word.{mendedFrame, flagsOf}
+use Rattle.framing.specs.definitions.Call.{base}
+use Rattle.framing.specs.definitions.Receive.{broughtLanes, receivedFlags}
 use borrow.Author.Needs.{needs}
 use Rattle.framing.proofs.receive_frame.Statement.{statement}
 use Rattle.framing.proofs.receive_frame.Tie as tie
@@ -18,8 +18,8 @@ decode-frame-requires c κs = search needs
 to-lanes-requires : tie.Need-to-lanes-requires
 to-lanes-requires c κs = search needs
 
-unweave-requires : tie.Need-unweave-requires
-unweave-requires c κs = search needs
+deinterleave-requires : tie.Need-deinterleave-requires
+deinterleave-requires c κs = search needs
 
 returns : tie.Need-returns
 unfolding broughtLanes receivedFlags
@@ -28,9 +28,9 @@ returns c =
     let words = c .before .before .before .before .before .before .before .before .before .before .words-from-frame .ensures in
     let mended = c .before .before .before .before .before .before .before .decode-frame .ensures in
     let brought = c .before .before .before .before .to-lanes .ensures ∙ ap wordLanes (mended .0 ∙ ap mendedFrame words) in
-    let unwove = c .unweave .ensures in (
-      unwove .0 ∙ ap (λ a. unwovenFrame base a (start .store .now)) brought,
-      unwove .1 ∙ ap (λ a. unwovenStore a (start .store .now)) brought,
+    let returned = c .deinterleave .ensures in (
+      returned .0 ∙ ap (λ a. deinterleavedFrame base a (start .store .now)) brought,
+      returned .1 ∙ ap (λ a. deinterleavedStore a (start .store .now)) brought,
       mended .1 ∙ ap flagsOf words,
     )
 
@@ -41,5 +41,5 @@ receive-frame-spec =
     words-from-frame-requires
     decode-frame-requires
     to-lanes-requires
-    unweave-requires
+    deinterleave-requires
     returns)

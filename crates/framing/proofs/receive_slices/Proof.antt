@@ -2,8 +2,8 @@
 use mathlib.Core.Path.{sym, ap, ap₂, _∙_}
 use lib.ListN.{length}
 use Rattle.bits.proofs.Filling.{copied-all}
-use Rattle.framing.specs.Call.{base}
-use Rattle.framing.specs.Receive.{receivedLanes, receivedStore, receivedFlags}
+use Rattle.framing.specs.definitions.Call.{base}
+use Rattle.framing.specs.definitions.Receive.{receivedLanes, receivedStore, receivedFlags}
 use Rattle.framing.proofs.Receiving.{store-length, lanes-length, flags-length}
 use borrow.Author.Needs.{needs}
 use Rattle.framing.proofs.receive_slices.Statement.{statement}

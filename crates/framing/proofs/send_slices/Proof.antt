@@ -2,9 +2,9 @@
 use mathlib.Core.Path.{sym, ap, ap₂, _∙_}
 use lib.ListN.{length}
 use Rattle.bits.proofs.Filling.{copied-all}
-use Rattle.lanes.specs.Interleaver.{wovenStore}
-use Rattle.framing.specs.Call.{base}
-use Rattle.framing.specs.Send.{sentFrame}
+use Rattle.lanes.specs.definitions.Interleaver.{interleavedStore}
+use Rattle.framing.specs.definitions.Call.{base}
+use Rattle.framing.specs.definitions.Send.{sentFrame}
 use Rattle.framing.proofs.Sending.{store-length, frame-length}
 use borrow.Author.Needs.{needs}
 use Rattle.framing.proofs.send_slices.Statement.{statement}
@@ -50,7 +50,7 @@ returns c =
     let kept = c .before .before .before .before .before .before .before .before .before .before .before .before .before .before .before .copy2 .ensures ∙ copied-all _ _ (start .pre .1) in
     let sent = c .before .before .before .before .before .before .before .before .before .before .send-frame .ensures in
     let frame = sent .0 ∙ ap₂ (sentFrame base) lanes kept in
-    let store = sent .1 ∙ ap₂ (wovenStore base) lanes kept in (
+    let store = sent .1 ∙ ap₂ (interleavedStore base) lanes kept in (
       c .before .before .copy4 .ensures ∙ copied-all _ _ (ap length frame ∙ frame-length _ _ _ ∙ sym (start .pre .2)) ∙ frame,
       c .before .before .before .before .before .before .before .copy3 .ensures ∙ copied-all _ _ (ap length store ∙ store-length _ _ _ ∙ sym (start .pre .1)) ∙ store,
     )

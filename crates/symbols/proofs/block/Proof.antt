@@ -3,8 +3,8 @@ use mathlib.Core.Path.{_≡_}
 use Prim.Native.Nat.{_+_, _*_, _-_, _≤_}
 use native.Mathlib.Omega.{arith}
 use lib.ListN.{drop}
-use Rattle.symbols.specs.Tables.{fieldsOf}
-use Rattle.symbols.proofs.Gathering.{fields-none, fields-turn, fields-room, fields-lt, fields-done}
+use Rattle.symbols.specs.private.Numbers.{fieldsOf}
+use Rattle.symbols.proofs.Gathering.{fields-none, fields-step, fields-room, fields-lt, fields-done}
 use Rattle.symbols.proofs.block.Statement.{statement}
 use Rattle.symbols.proofs.block.Tie as tie
 
@@ -14,13 +14,13 @@ Inv-loop t s at l v₀ j₀ v j = (j ≤ 8) × (v ≡ fieldsOf j l (drop at s))
 abbrev μ-loop : tie.MeasureT-loop
 μ-loop t s at l v₀ j₀ v j = 8 - j
 
--- a turn's sum is the numbers of one symbol more
-turn : (c : tie.After-look Inv-loop μ-loop)
-    → c .before .before .before .loop .v * 4 + c .look .result
+-- a step's sum is the numbers of one symbol more
+turn : (c : tie.After-dibits Inv-loop μ-loop)
+    → c .before .before .before .loop .v * 4 + c .dibits .result
     ≡ fieldsOf (c .before .before .before .loop .j + 1) (c .before .before .before .before .before .args .l) (drop (c .before .before .before .before .before .args .at) (c .before .before .before .before .before .args .s .now))
 turn c =
     let a = c .before .before .before .before .before .args in
-    fields-turn (a .s .now) (a .at) (a .l) _ _ _ (c .before .before .before .loop .inv .1) (c .look .ensures)
+    fields-step (a .s .now) (a .at) (a .l) _ _ _ (c .before .before .before .loop .inv .1) (c .dibits .ensures)
 
 loop-holds : tie.Need-loop-holds Inv-loop μ-loop
 loop-holds c = let a = c .before .args in (omega arith, fields-none (a .s .now) (a .at) (a .l))
@@ -28,17 +28,17 @@ loop-holds c = let a = c .before .args in (omega arith, fields-none (a .s .now) 
 mul-v : tie.Need-mul-v Inv-loop μ-loop
 mul-v c = let a = c .before .before .before .args in omega (arith, fields-room (a .s .now) (a .at) (a .l) _ _ (c .loop-test .taken) (c .before .loop .inv .1))
 
-add-look : tie.Need-add-look Inv-loop μ-loop
-add-look c = omega arith
+add-dibits : tie.Need-add-dibits Inv-loop μ-loop
+add-dibits c = omega arith
 
-shared-slice-read-look : tie.Need-shared-slice-read-look Inv-loop μ-loop
-shared-slice-read-look c = omega arith
+shared-slice-read-dibits : tie.Need-shared-slice-read-dibits Inv-loop μ-loop
+shared-slice-read-dibits c = omega arith
 
-add-look-2 : tie.Need-add-look-2 Inv-loop μ-loop
-add-look-2 c = omega arith
+add-dibits-2 : tie.Need-add-dibits-2 Inv-loop μ-loop
+add-dibits-2 c = omega arith
 
-look-requires : tie.Need-look-requires Inv-loop μ-loop
-look-requires c κs = c .before .before .before .before .pre .0
+dibits-requires : tie.Need-dibits-requires Inv-loop μ-loop
+dibits-requires c κs = c .before .before .before .before .pre .0
 
 add-v : tie.Need-add-v Inv-loop μ-loop
 add-v c = let a = c .before .before .before .before .before .args in record { fits = fields-lt (a .s .now) (a .at) (a .l) _ _ (omega arith) (turn c) }
@@ -63,10 +63,10 @@ block-spec =
     μ-loop
     loop-holds
     mul-v
-    add-look
-    shared-slice-read-look
-    add-look-2
-    look-requires
+    add-dibits
+    shared-slice-read-dibits
+    add-dibits-2
+    dibits-requires
     add-v
     add-j
     loop-less

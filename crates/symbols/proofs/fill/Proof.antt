@@ -4,8 +4,8 @@ use Prim.Native.Nat.{_-_, _%_}
 use native.Mathlib.Omega.{arith}
 use lib.ListN.{length, length-set}
 use Rattle.bits.proofs.Filling.{Filling, filling-start, filling-done}
-use Rattle.symbols.specs.Tables.{symbolFrom, numberOf}
-use Rattle.symbols.proofs.Symbols.{fill-turn}
+use Rattle.symbols.specs.private.Numbers.{symbolFrom, numberOf}
+use Rattle.symbols.proofs.Symbols.{fill-step}
 use Rattle.symbols.proofs.fill.Statement.{statement}
 use Rattle.symbols.proofs.fill.Tie as tie
 
@@ -18,17 +18,17 @@ abbrev μ-loop : tie.MeasureT-loop
 loop-holds : tie.Need-loop-holds Inv-loop μ-loop
 loop-holds c = (filling-start _ refl, omega arith)
 
-add-four : tie.Need-add-four Inv-loop μ-loop
-add-four c = omega arith
+add-four-symbols : tie.Need-add-four-symbols Inv-loop μ-loop
+add-four-symbols c = omega arith
 
-sub-four : tie.Need-sub-four Inv-loop μ-loop
-sub-four c = omega arith
+sub-four-symbols : tie.Need-sub-four-symbols Inv-loop μ-loop
+sub-four-symbols c = omega arith
 
-add-four-2 : tie.Need-add-four-2 Inv-loop μ-loop
-add-four-2 c = omega arith
+add-four-symbols-2 : tie.Need-add-four-symbols-2 Inv-loop μ-loop
+add-four-symbols-2 c = omega arith
 
-four-requires : tie.Need-four-requires Inv-loop μ-loop
-four-requires c κs = (c .before .before .before .pre .0, omega arith)
+four-symbols-requires : tie.Need-four-symbols-requires Inv-loop μ-loop
+four-symbols-requires c κs = (c .before .before .before .pre .0, omega arith)
 
 cast-out : tie.Need-cast-out Inv-loop μ-loop
 cast-out c = omega arith
@@ -73,7 +73,7 @@ loop-again : tie.Need-loop-again Inv-loop μ-loop
 loop-again c =
     let at = c .before .before in
     let a = at .before .before .args in
-    (fill-turn (length (a .out .now)) (a .l) (numberOf (a .q)) (at .loop .i) _ (omega arith) (c .four .ensures) (at .loop .inv .0), omega arith)
+    (fill-step (length (a .out .now)) (a .l) (numberOf (a .q)) (at .loop .i) _ (omega arith) (c .four-symbols .ensures) (at .loop .inv .0), omega arith)
 
 same-length : tie.Need-same-length Inv-loop μ-loop
 same-length c = omega arith
@@ -88,10 +88,10 @@ fill-spec =
     Inv-loop
     μ-loop
     loop-holds
-    add-four
-    sub-four
-    add-four-2
-    four-requires
+    add-four-symbols
+    sub-four-symbols
+    add-four-symbols-2
+    four-symbols-requires
     cast-out
     slice-write-out
     cast-out-2

@@ -3,8 +3,8 @@ use mathlib.Core.Path.{_≡_}
 use Prim.Native.Nat.{_-_, _%_, _≤_}
 use native.Mathlib.Omega.{arith}
 use lib.ListN.{drop}
-use Rattle.symbols.specs.Tables.{quadOf}
-use Rattle.symbols.proofs.Gathering.{quad-none, quad-room, quad-turn, quad-done}
+use Rattle.symbols.specs.private.Numbers.{quadOf}
+use Rattle.symbols.proofs.Gathering.{quad-none, quad-room, quad-step, quad-done}
 use Rattle.symbols.proofs.gather.Statement.{statement}
 use Rattle.symbols.proofs.gather.Tie as tie
 
@@ -38,7 +38,7 @@ loop-less c = omega arith
 loop-again : tie.Need-loop-again Inv-loop μ-loop
 loop-again c =
     let a = c .before .before .before .before .before .args in
-    (omega arith, omega arith, quad-turn (a .s .now) (a .at) (a .l) _ _ _ _ (c .before .before .before .loop .inv .2) (c .before .block .ensures) (c .join .ensures))
+    (omega arith, omega arith, quad-step (a .s .now) (a .at) (a .l) _ _ _ _ (c .before .before .before .loop .inv .2) (c .before .block .ensures) (c .join .ensures))
 
 returns : tie.Need-returns Inv-loop μ-loop
 returns c = let a = c .before .before .before .args in quad-done (a .s .now) (a .at) (a .l) _ _ (omega arith) (c .before .loop .inv .2)

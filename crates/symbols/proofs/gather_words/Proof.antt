@@ -1,7 +1,7 @@
 -- `symbols::gather_words` meets its contract: the numbers of each 32 symbols before half h are there. Assumes nothing.
 use Prim.Native.Nat.{_*_, _-_}
 use native.Mathlib.Omega.{arith}
-use Rattle.symbols.proofs.Gathering.{Gathering, gathering-start, gathering-turn, gathering-done}
+use Rattle.symbols.proofs.Gathering.{Gathering, gathering-start, gathering-step, gathering-done}
 use Rattle.symbols.proofs.gather_words.Statement.{statement}
 use Rattle.symbols.proofs.gather_words.Tie as tie
 
@@ -49,7 +49,7 @@ loop-less c = omega arith
 
 loop-again : tie.Need-loop-again Inv-loop μ-loop
 loop-again c =
-    gathering-turn (c .before .before .before .before .before .before .loop .inv) (c .before .before .before .before .before .loop-test .taken)
+    gathering-step (c .before .before .before .before .before .before .loop .inv) (c .before .before .before .before .before .loop-test .taken)
     (c .before .before .before .before .gather .ensures) (c .before .before .put-quad .ensures)
 
 same-length : tie.Need-same-length Inv-loop μ-loop

@@ -1,6 +1,6 @@
 -- `symbols::join` meets its contract: the code is the definition. Assumes nothing.
 use mathlib.Core.Path.{refl}
-use Rattle.symbols.specs.Tables.{joined}
+use Rattle.symbols.specs.private.Numbers.{joined}
 use borrow.Author.Needs.{needs}
 use Rattle.symbols.proofs.join.Statement.{statement}
 use Rattle.symbols.proofs.join.Tie as tie

@@ -1,4 +1,4 @@
--- `symbols::map_words` meets its contract: the 64 symbols of each group before group g are there; a turn is the pilot and 3 symbols, 28 and 32. Assumes
+-- `symbols::map_words` meets its contract: the 64 symbols of each group before group g are there; a step is the pilot and 3 symbols, 28 and 32. Assumes
 -- nothing.
 use mathlib.Core.Path.{_≡_, ap, _∙_, subst}
 use mathlib.Core.List.{List, _++_}
@@ -7,8 +7,8 @@ use native.Mathlib.Omega.{arith}
 use lib.ListN.{getD, set, take, drop, length-set, length-take, length-drop}
 use Rattle.bits.proofs.Filling.{Filling, filling-start, filling-put, filling-done}
 use Rattle.symbols.specs.declared.Quad.{Quad}
-use Rattle.symbols.specs.Tables.{numberOf, symbolFrom, fourFrom, mappedAt}
-use Rattle.symbols.proofs.Symbols.{head-turn, rest-is, lower-is}
+use Rattle.symbols.specs.private.Numbers.{numberOf, symbolFrom, fourSymbols, mappedAt}
+use Rattle.symbols.proofs.Symbols.{head-step, rest-is, lower-is}
 use Rattle.symbols.proofs.map_words.Statement.{statement}
 use Rattle.symbols.proofs.map_words.Tie as tie
 
@@ -30,7 +30,7 @@ abbrev Out1 : tie.After-frame Inv-loop μ-loop → List ℕ
 Out1 c =
     let a = c .before .before .before .before .before in
     let g = a .loop .g in
-    let v = c .before .four .result in
+    let v = c .before .four-symbols .result in
     set (set (set (set (a .loop .frame) (g * 64) (getD (a .before .before .before .args .p .now) g 0)) (g * 64 + 1) (v / 65536 % 256)) (g * 64 + 2) (v / 256 % 256)) (g * 64 + 3) (v % 256)
 
 one : (c : tie.After-frame Inv-loop μ-loop)
@@ -38,8 +38,8 @@ one : (c : tie.After-frame Inv-loop μ-loop)
 one c =
     let a = c .before .before .before .before .before in
     let g = a .loop .g in
-    head-turn (wordsAt a) g _ _ (c .before .before .before .before .loop-test .taken) (ap (λ (l : List ℕ). getD l g 0) (a .before .before .before .pre .1 .0))
-    (c .before .four .ensures ∙ ap (λ (q : Quad). fourFrom 28 (g % 8 * 63 + 3) (numberOf q)) (c .before .before .before .quad-at .ensures)) (a .loop .inv)
+    head-step (wordsAt a) g _ _ (c .before .before .before .before .loop-test .taken) (ap (λ (l : List ℕ). getD l g 0) (a .before .before .before .pre .1 .0))
+    (c .before .four-symbols .ensures ∙ ap (λ (q : Quad). fourSymbols 28 (g % 8 * 63 + 3) (numberOf q)) (c .before .before .before .quad-at .ensures)) (a .loop .inv)
 
 -- after the other symbols of the upper numbers
 abbrev Out2 : tie.After-fill Inv-loop μ-loop → List ℕ
@@ -101,11 +101,11 @@ mul-e c = omega arith
 add-e : tie.Need-add-e Inv-loop μ-loop
 add-e c = omega arith
 
-add-four : tie.Need-add-four Inv-loop μ-loop
-add-four c = omega arith
+add-four-symbols : tie.Need-add-four-symbols Inv-loop μ-loop
+add-four-symbols c = omega arith
 
-four-requires : tie.Need-four-requires Inv-loop μ-loop
-four-requires c κs = (c .before .before .before .before .before .before .pre .0, omega arith)
+four-symbols-requires : tie.Need-four-symbols-requires Inv-loop μ-loop
+four-symbols-requires c κs = (c .before .before .before .before .before .before .pre .0, omega arith)
 
 element-copy-out-frame : tie.Need-element-copy-out-frame Inv-loop μ-loop
 element-copy-out-frame c = omega arith
@@ -218,8 +218,8 @@ map-words-spec =
     add-m
     mul-e
     add-e
-    add-four
-    four-requires
+    add-four-symbols
+    four-symbols-requires
     element-copy-out-frame
     slice-write-frame
     cast-frame

@@ -2,7 +2,7 @@
 use mathlib.Core.Path.{refl}
 use native.Mathlib.Omega.{arith}
 use lib.ListN.{length-set}
-use Rattle.symbols.specs.Tables.{quadPut}
+use Rattle.symbols.specs.private.Numbers.{quadPut}
 use borrow.Author.Needs.{needs}
 use Rattle.symbols.proofs.put_quad.Statement.{statement}
 use Rattle.symbols.proofs.put_quad.Tie as tie

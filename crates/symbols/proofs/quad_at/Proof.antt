@@ -1,6 +1,6 @@
 -- `symbols::quad_at` meets its contract: the code is the definition. Assumes nothing.
 use mathlib.Core.Path.{refl}
-use Rattle.symbols.specs.Tables.{quadAt}
+use Rattle.symbols.specs.private.Numbers.{quadAt}
 use borrow.Author.Needs.{needs}
 use Rattle.symbols.proofs.quad_at.Statement.{statement}
 use Rattle.symbols.proofs.quad_at.Tie as tie

@@ -33,14 +33,14 @@ use denote.Triple.Spec.{Meets, tripleOf}
 use denote.Triple.Statement.{Contract, Triple}
 use denote.Triple.Clauses.{lasts}
 use denote.Triple.Table.{entered, cited}
-use Rattle.adderbloom.specs.Entry.{flagsEntered}
+use Rattle.adderbloom.specs.definitions.Entry.{flagsEntered}
 use Rattle.account.specs.declared.Account.{Account}
 use Rattle.account.specs.declared.Entry.{Entry}
 use Rattle.adderbloom.proofs.entries.enter_flags as by-value
 use Rattle.adderbloom.proofs.entries.enter_flags.Symbol as by-value-def
 use Rattle.adderbloom.proofs.entries.enter_flags.Symbol.{name as #enter-flags}
 use Rattle.adderbloom.proofs.entries.enter_flags.Met as by-value-thm
-use Rattle.adderbloom.proofs.Lent.{machine, asking, hears, copied-out, answered, Held, lent-alone}
+use Rattle.adderbloom.proofs.ByReference.{machine, asking, hears, copied-out, answered, Held, lent-alone}
 use Rattle.adderbloom.proofs.Structs.{an-account, an-entry}
 use Rattle.adderbloom.proofs.entries.lr800_account_enter.Key.{name as #lr800-account-enter}
 use Rattle.adderbloom.proofs.entries.lr800_account_enter as lr800-account-enter

@@ -30,14 +30,14 @@ use denote.Triple.Spec.{Meets, tripleOf}
 use denote.Triple.Statement.{Contract, Triple}
 use denote.Triple.Clauses.{lasts}
 use denote.Triple.Table.{entered, cited}
-use Rattle.account.specs.Account.{lossEntered}
+use Rattle.account.specs.definitions.Account.{lossEntered}
 use Rattle.account.specs.declared.Account.{Account}
 use Rattle.account.specs.declared.Entry.{Entry}
 use Rattle.account.proofs.lose as by-value
 use Rattle.account.proofs.lose.Symbol as by-value-def
 use Rattle.account.proofs.lose.Symbol.{name as #lose}
 use Rattle.account.proofs.lose.Met as by-value-thm
-use Rattle.adderbloom.proofs.Lent.{machine, asking, hears, copied-out, answered, Held, lent-alone}
+use Rattle.adderbloom.proofs.ByReference.{machine, asking, hears, copied-out, answered, Held, lent-alone}
 use Rattle.adderbloom.proofs.Structs.{an-account, an-entry}
 use Rattle.adderbloom.proofs.entries.lr800_account_lose.Key.{name as #lr800-account-lose}
 use Rattle.adderbloom.proofs.entries.lr800_account_lose as lr800-account-lose

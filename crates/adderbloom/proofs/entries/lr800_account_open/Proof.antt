@@ -26,13 +26,13 @@ use denote.Triple.Spec.{Meets, tripleOf}
 use denote.Triple.Statement.{Contract, Triple}
 use denote.Triple.Clauses.{lasts}
 use denote.Triple.Table.{entered, cited}
-use Rattle.account.specs.Account.{opened}
+use Rattle.account.specs.definitions.Account.{opened}
 use Rattle.account.specs.declared.Account.{Account}
 use Rattle.account.proofs.opened as by-value
 use Rattle.account.proofs.opened.Symbol as by-value-def
 use Rattle.account.proofs.opened.Symbol.{name as #opened}
 use Rattle.account.proofs.opened.Met as by-value-thm
-use Rattle.adderbloom.proofs.Lent.{asking, hears, placed, Held, lent-alone}
+use Rattle.adderbloom.proofs.ByReference.{asking, hears, placed, Held, lent-alone}
 use Rattle.adderbloom.proofs.Structs.{an-account}
 use Rattle.adderbloom.proofs.entries.lr800_account_open.Key.{name as #lr800-account-open}
 use Rattle.adderbloom.proofs.entries.lr800_account_open as lr800-account-open

@@ -1,7 +1,7 @@
 -- `adderbloom::records::lr800_read` meets its contract, by what was read. Assumes nothing.
 use mathlib.Core.Path.{sym, ap, _∙_}
 use Rattle.capture.specs.declared.Read.{Read}
-use Rattle.adderbloom.specs.Record.{recordOf}
+use Rattle.adderbloom.specs.definitions.Record.{recordOf}
 use borrow.Author.Needs.{needs}
 use Rattle.adderbloom.proofs.records.lr800_read.Statement.{statement}
 use Rattle.adderbloom.proofs.records.lr800_read.Tie as tie

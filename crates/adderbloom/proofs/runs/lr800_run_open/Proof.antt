@@ -23,14 +23,14 @@ use denote.Triple.Spec.{Meets, tripleOf}
 use denote.Triple.Statement.{Contract, Triple}
 use denote.Triple.Clauses.{lasts}
 use denote.Triple.Table.{entered, cited}
-use Rattle.bench.specs.Run.{begun}
-use Rattle.adderbloom.specs.Run.{kept}
+use Rattle.bench.specs.definitions.Run.{begun}
+use Rattle.adderbloom.specs.definitions.Run.{keptRun}
 use Rattle.adderbloom.specs.declared.runs.Run.{Run}
 use Rattle.adderbloom.proofs.runs.opened as by-value
 use Rattle.adderbloom.proofs.runs.opened.Symbol as by-value-def
 use Rattle.adderbloom.proofs.runs.opened.Symbol.{name as #opened}
 use Rattle.adderbloom.proofs.runs.opened.Met as by-value-thm
-use Rattle.adderbloom.proofs.Lent.{asking, hears, placed, Held, lent-alone}
+use Rattle.adderbloom.proofs.ByReference.{asking, hears, placed, Held, lent-alone}
 use Rattle.adderbloom.proofs.Structs.{a-run}
 use Rattle.adderbloom.proofs.runs.lr800_run_open.Key.{name as #lr800-run-open}
 use Rattle.adderbloom.proofs.runs.lr800_run_open as lr800-run-open
@@ -43,7 +43,7 @@ module _ {M : Type 1} (𝓤 : URA M) (H : Heap 𝓤) (A : Atoms 𝓤) (mem : Mem
   Opened = tripleOf 𝓤 H A by-value.signature (by-value.spec 𝓤 H A mem run)
 
   module _ (W : Given 𝓤 H A) (C : Calls 𝓤 H) (Λ : Loops 𝓤 H) (fm : FmC 𝓤 H (W .laws) C) (known : Triple 𝓤 (C #opened) Opened) (κ : Lft) (q : Share) (a : RefT Run) where
-    walk : (Kf : Val → SProp 𝓤) → ((r : Run) → r ≡ kept begun → ent 𝓤 (⋆ 𝓤 H A (Held 𝓤 a-run κ q a r (raw (emp 𝓤) ∷ []))) (Kf vunit))
+    walk : (Kf : Val → SProp 𝓤) → ((r : Run) → r ≡ keptRun begun → ent 𝓤 (⋆ 𝓤 H A (Held 𝓤 a-run κ q a r (raw (emp 𝓤) ∷ []))) (Kf vunit))
         → ent 𝓤 (⋆ 𝓤 H A (Held 𝓤 a-run κ q a (a .now) (raw (emp 𝓤) ∷ ‵ (owns [] tt tt) ∷ []))) (WpFn 𝓤 H C Λ code.function (vptr (a .ptr .0) (a .ptr .1) ∷ []) Kf)
     walk Kf ends =
         qed W (Held 𝓤 a-run κ q a (a .now) (raw (emp 𝓤) ∷ ‵ (owns [] tt tt) ∷ [])) ∵
@@ -51,10 +51,10 @@ module _ {M : Type 1} (𝓤 : URA M) (H : Heap 𝓤) (A : Atoms 𝓤) (mem : Mem
         alloc1 ! (λ l₀. alloc1 ! (λ l₁. alloc1 ! (λ l₂. alloc0 ! $ params1 ! $ pass1 ! (init ! 2 refl (tt, tt)) $ pass0 ! $
         -- [what `opened` asks; room for _2; …; _1; …; room for _0; …; obs; the borrow; the token]
         move ! (9 ∷ 10 ∷ []) $ use2 W (raw (Opened .pre ((tt, tt, tt, tt, tt), tt))) (asking 𝓤 H A W (emp 𝓤) [] tt tt) $ move ! (0 ∷ 1 ∷ 7 ∷ 8 ∷ 9 ∷ 3 ∷ 5 ∷ []) $
-        placed ! fm a-run (a .now) refl (emp 𝓤) (λ r. ex 𝓤 (λ ws. sep 𝓤 (sem 𝓤 H A (lasts by-value.ended tt tt ws)) (fact 𝓤 (r ≡ kept begun)))) Opened known ((tt, tt, tt, tt, tt), tt) (λ v. id⊢ 𝓤 _)
+        placed ! fm a-run (a .now) refl (emp 𝓤) (λ r. ex 𝓤 (λ ws. sep 𝓤 (sem 𝓤 H A (lasts by-value.ended tt tt ws)) (fact 𝓤 (r ≡ keptRun begun)))) Opened known ((tt, tt, tt, tt, tt), tt) (λ v. id⊢ 𝓤 _)
         (no-more !) (λ r.
         move ! (3 ∷ 10 ∷ 4 ∷ 9 ∷ 5 ∷ 8 ∷ []) $ free1 ! $ free1 ! $ free1 ! $ free0 ! $
-        move ! (4 ∷ []) $ hears ! (λ ws. sem 𝓤 H A (lasts by-value.ended tt tt ws)) (r ≡ kept begun) (λ e. by ! (ends r e))))))
+        move ! (4 ∷ []) $ hears ! (λ ws. sem 𝓤 H A (lasts by-value.ended tt tt ws)) (r ≡ keptRun begun) (λ e. by ! (ends r e))))))
 
 lr800-run-open-meets : {M : Type 1} (𝓤 : URA M) (H : Heap 𝓤) (A : Atoms 𝓤) → Given 𝓤 H A → (mem : Memory → SProp 𝓤) (run : Routine → Fun 𝓤) (𝓣 : Tables 𝓤 H)
     → Triple 𝓤 (𝓣 .C #opened) (Opened 𝓤 H A mem run)

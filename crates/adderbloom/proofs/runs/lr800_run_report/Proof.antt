@@ -1,7 +1,7 @@
 -- `adderbloom::runs::lr800_run_report` meets its contract. Assumes nothing.
 use mathlib.Core.Path.{ap, _∙_}
 use Rattle.bench.specs.declared.Run.{Run}
-use Rattle.bench.specs.Report.{writtenBytes, written}
+use Rattle.report.specs.definitions.Report.{writtenBytes, written}
 use borrow.Author.Needs.{needs}
 use Rattle.adderbloom.proofs.runs.lr800_run_report.Statement.{statement}
 use Rattle.adderbloom.proofs.runs.lr800_run_report.Tie as tie

@@ -36,14 +36,14 @@ use denote.Triple.Clauses.{lasts}
 use denote.Triple.Table.{entered, cited}
 use denote.Triple.Walked.{gave-slice, stay-dropped, goes-gave-slice, goes-dropped}
 use denote.Exit.{yes}
-use Rattle.adderbloom.specs.Run.{Steps}
+use Rattle.adderbloom.specs.definitions.Run.{Steps}
 use Rattle.adderbloom.specs.declared.runs.Run.{Run}
 use Rattle.adderbloom.specs.declared.runs.Answer.{Answer}
 use Rattle.adderbloom.proofs.runs.stepped as by-value
 use Rattle.adderbloom.proofs.runs.stepped.Symbol as by-value-def
 use Rattle.adderbloom.proofs.runs.stepped.Symbol.{name as #stepped}
 use Rattle.adderbloom.proofs.runs.stepped.Met as by-value-thm
-use Rattle.adderbloom.proofs.Lent.{machine, asking, copied-out, answered, Held, lent-meets}
+use Rattle.adderbloom.proofs.ByReference.{machine, asking, copied-out, answered, Held, lent-meets}
 use Rattle.adderbloom.proofs.Structs.{a-run, a-step}
 use Rattle.adderbloom.proofs.runs.lr800_run_step.Key.{name as #lr800-run-step}
 use Rattle.adderbloom.proofs.runs.lr800_run_step as lr800-run-step

@@ -27,14 +27,14 @@ use denote.Triple.Spec.{Meets, tripleOf}
 use denote.Triple.Statement.{Contract, Triple}
 use denote.Triple.Clauses.{lasts}
 use denote.Triple.Table.{entered, cited}
-use Rattle.bench.specs.Run.{stopped}
-use Rattle.adderbloom.specs.Run.{kept, runOf}
+use Rattle.bench.specs.definitions.Run.{stopped}
+use Rattle.adderbloom.specs.definitions.Run.{keptRun, runOf}
 use Rattle.adderbloom.specs.declared.runs.Run.{Run}
 use Rattle.adderbloom.proofs.runs.stopped as by-value
 use Rattle.adderbloom.proofs.runs.stopped.Symbol as by-value-def
 use Rattle.adderbloom.proofs.runs.stopped.Symbol.{name as #stopped}
 use Rattle.adderbloom.proofs.runs.stopped.Met as by-value-thm
-use Rattle.adderbloom.proofs.Lent.{machine, asking, hears, copied-out, placed, Held, lent-alone}
+use Rattle.adderbloom.proofs.ByReference.{machine, asking, hears, copied-out, placed, Held, lent-alone}
 use Rattle.adderbloom.proofs.Structs.{a-run}
 use Rattle.adderbloom.proofs.runs.lr800_run_stop.Key.{name as #lr800-run-stop}
 use Rattle.adderbloom.proofs.runs.lr800_run_stop as lr800-run-stop
@@ -58,7 +58,7 @@ module _ {M : Type 1} (𝓤 : URA M) (H : Heap 𝓤) (A : Atoms 𝓤) (mem : Mem
     abbrev at : Valss Rs
     at = (machine a-run (a .now) ∷ [], tt)
 
-    walk : (Kf : Val → SProp 𝓤) → ((r : Run) → r ≡ kept (stopped (runOf (a .now))) → ent 𝓤 (⋆ 𝓤 H A (Held 𝓤 a-run κ q a r (raw (emp 𝓤) ∷ []))) (Kf vunit))
+    walk : (Kf : Val → SProp 𝓤) → ((r : Run) → r ≡ keptRun (stopped (runOf (a .now))) → ent 𝓤 (⋆ 𝓤 H A (Held 𝓤 a-run κ q a r (raw (emp 𝓤) ∷ []))) (Kf vunit))
         → ent 𝓤 (⋆ 𝓤 H A (Held 𝓤 a-run κ q a (a .now) (raw (emp 𝓤) ∷ ‵ (owns [] tt tt) ∷ []))) (WpFn 𝓤 H C Λ code.function (vptr (a .ptr .0) (a .ptr .1) ∷ []) Kf)
     walk Kf ends =
         qed W (Held 𝓤 a-run κ q a (a .now) (raw (emp 𝓤) ∷ ‵ (owns [] tt tt) ∷ [])) ∵
@@ -68,10 +68,10 @@ module _ {M : Type 1} (𝓤 : URA M) (H : Heap 𝓤) (A : Atoms 𝓤) (mem : Mem
         move ! (8 ∷ 9 ∷ 10 ∷ 4 ∷ 0 ∷ []) $ copied-out ! a-run (a .now) refl (λ is.
         move ! (12 ∷ []) $ owned ! (row (a-run .type)) (Is (row (a-run .type))) (LL.makes (a-run .type) (a-run .facts) 𝓤 H A) (a .now) _ is $ fjoin ! $
         move ! (12 ∷ 0 ∷ []) $ use2 W (raw (Stopped .pre ((tt, tt, tt, x, at), tt))) (asking 𝓤 H A W (emp 𝓤) Rs x at) $ move ! (0 ∷ 7 ∷ 1 ∷ 2 ∷ 3 ∷ 4 ∷ 10 ∷ []) $
-        placed ! fm a-run (a .now) refl (emp 𝓤) (λ r. ex 𝓤 (λ ws. sep 𝓤 (sem 𝓤 H A (lasts by-value.ended tt x ws)) (fact 𝓤 (r ≡ kept (stopped (runOf (a .now))))))) Stopped known ((tt, tt, tt, x, at), tt) (λ v. id⊢ 𝓤 _)
+        placed ! fm a-run (a .now) refl (emp 𝓤) (λ r. ex 𝓤 (λ ws. sep 𝓤 (sem 𝓤 H A (lasts by-value.ended tt x ws)) (fact 𝓤 (r ≡ keptRun (stopped (runOf (a .now))))))) Stopped known ((tt, tt, tt, x, at), tt) (λ v. id⊢ 𝓤 _)
         (and-then ! (load ! (from ! (stop !)) (look ! 7 refl)) (no-more !)) (λ r.
         forget ! 8 refl $ move ! (3 ∷ 12 ∷ 4 ∷ 11 ∷ 5 ∷ 10 ∷ 8 ∷ 9 ∷ []) $ free1 ! $ free1 ! $ free1 ! $ free1 ! $ free0 ! $
-        move ! (4 ∷ []) $ hears ! (λ ws. sem 𝓤 H A (lasts by-value.ended tt x ws)) (r ≡ kept (stopped (runOf (a .now)))) (λ e. by ! (ends r e))))))))
+        move ! (4 ∷ []) $ hears ! (λ ws. sem 𝓤 H A (lasts by-value.ended tt x ws)) (r ≡ keptRun (stopped (runOf (a .now)))) (λ e. by ! (ends r e))))))))
 
 lr800-run-stop-meets : {M : Type 1} (𝓤 : URA M) (H : Heap 𝓤) (A : Atoms 𝓤) → Given 𝓤 H A → (mem : Memory → SProp 𝓤) (run : Routine → Fun 𝓤) (𝓣 : Tables 𝓤 H)
     → Triple 𝓤 (𝓣 .C #stopped) (Stopped 𝓤 H A mem run)

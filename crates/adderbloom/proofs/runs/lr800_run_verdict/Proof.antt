@@ -1,7 +1,7 @@
 -- `adderbloom::runs::lr800_run_verdict` meets its contract: the number of the verdict. Assumes nothing.
 use mathlib.Core.Path.{ap, _∙_}
-use Rattle.account.specs.Account.{verdictNumber}
-use Rattle.bench.specs.Run.{verdictOf}
+use Rattle.account.specs.definitions.Account.{verdictNumber}
+use Rattle.bench.specs.definitions.Run.{verdictOf}
 use borrow.Author.Needs.{needs}
 use Rattle.adderbloom.proofs.runs.lr800_run_verdict.Statement.{statement}
 use Rattle.adderbloom.proofs.runs.lr800_run_verdict.Tie as tie

@@ -1,6 +1,6 @@
 -- `adderbloom::runs::phase_number` meets its contract, phase by phase. Assumes nothing.
 use mathlib.Core.Path.{sym, ap}
-use Rattle.adderbloom.specs.Run.{phaseNumber}
+use Rattle.adderbloom.specs.definitions.Run.{phaseNumber}
 use borrow.Author.Needs.{needs}
 use Rattle.adderbloom.proofs.runs.phase_number.Statement.{statement}
 use Rattle.adderbloom.proofs.runs.phase_number.Tie as tie

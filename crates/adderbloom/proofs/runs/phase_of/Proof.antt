@@ -1,7 +1,7 @@
 -- `adderbloom::runs::phase_of` meets its contract: the tests are the definition's. Assumes nothing.
 use mathlib.Core.Path.{refl}
 use borrow.Author.Tests.{eq-eqb, ne-eqb}
-use Rattle.adderbloom.specs.Run.{phaseOf}
+use Rattle.adderbloom.specs.definitions.Run.{phaseOf}
 use Rattle.adderbloom.proofs.runs.phase_of.Statement.{statement}
 use Rattle.adderbloom.proofs.runs.phase_of.Tie as tie
 

@@ -23,8 +23,8 @@ step-requires c κs = search needs
 put-store-requires : tie.Need-put-store-requires
 put-store-requires c κs = search needs
 
-kept-requires : tie.Need-kept-requires
-kept-requires c κs = search needs
+kept-run-requires : tie.Need-kept-run-requires
+kept-run-requires c κs = search needs
 
 same-length : tie.Need-same-length
 same-length c = search needs
@@ -33,7 +33,7 @@ returns-2 : tie.Need-returns-2
 returns-2 c =
     let x = c .before .before .before .before .before .before .before .before .before .before .before .before .before .before .before .before .before .args in
     let put = c .before .before .before .before .put-store .ensures in
-    step-done (x .r) (x .store .now) (x .piece .now) (c .before .before .before .before .before .before .before .before .before .before .before .before .before .before .if1 .left) _ _ (c .before .before .before .before .before .before .before .before .before .before .before .copy .ensures) refl _ (c .before .before .before .before .before .before .before .before .before .run-of .ensures) _ _ (c .before .before .before .before .before .before .before .step .ensures) (put .1) _ _ (c .kept .ensures) (put .0)
+    step-done (x .r) (x .store .now) (x .piece .now) (c .before .before .before .before .before .before .before .before .before .before .before .before .before .before .if1 .left) _ _ (c .before .before .before .before .before .before .before .before .before .before .before .copy .ensures) refl _ (c .before .before .before .before .before .before .before .before .before .run-of .ensures) _ _ (c .before .before .before .before .before .before .before .step .ensures) (put .1) _ _ (c .kept-run .ensures) (put .0)
 
 pub stepped-spec : {M : Type 1} → statement M
 stepped-spec =
@@ -45,6 +45,6 @@ stepped-spec =
     run-of-requires
     step-requires
     put-store-requires
-    kept-requires
+    kept-run-requires
     same-length
     returns-2)

@@ -1,0 +1,10 @@
+-- `decoder_tables::columns` meets its contract: the table keeps its rule. Assumes nothing.
+use Rattle.decoder_tables.proofs.Entries.{is-columns}
+use Rattle.decoder_tables.proofs.columns.Statement.{statement}
+use Rattle.decoder_tables.proofs.columns.Tie as tie
+
+returns : tie.Need-returns
+returns c = is-columns
+
+pub columns-spec : {M : Type 1} → statement M
+columns-spec = tie.close (tie.spec returns)

@@ -1,0 +1,6 @@
+pub mod Return
+pub mod Trial
+pub mod Tallies
+pub mod ReedSolomon
+pub mod Verdict
+pub mod Host

@@ -1,0 +1,84 @@
+-- Demand 2: PASS is given exactly if the frames ordered, at least one, and no others were measured, no record was refused, no second order came, and
+-- flagged words keep within the allowance; and what an examiner may read from a report. Over every byte string; `proofs/Verdict` proves each.
+-- Assumes nothing.
+use mathlib.Core.Path.{_≡_}
+use mathlib.Core.Bool.{true, false}
+use mathlib.Core.Logic.{_≢_, _⊎_, _↔_}
+use mathlib.Core.List.{List, []}
+use Prim.Native.Nat.{ℕ, _*_, _≤_, _<_}
+use lib.ListN.{length}
+use Rattle.bits.specs.definitions.Bits.{AllBytes}
+use Rattle.pilots.specs.definitions.Pilots.{locks}
+use Rattle.account.specs.definitions.Account.{total}
+use Rattle.capture.specs.declared.Read.the-variants.{Order}
+use Rattle.capture.specs.definitions.Capture.{readAt, frameNumber}
+use Rattle.bench.specs.definitions.Run.{State, stepRefusal}
+use Rattle.bench.specs.definitions.Walk.{examined, followed}
+use Rattle.report.specs.definitions.Report.{text}
+use Rattle.demands.specs.definitions.Verdict.{Measured, measuredRun, flaggedWords, Stepwise, Examination, Line, Arrived}
+
+-- PASS exactly if what was ordered was measured and flagged words are at most those allowed
+abbrev pub PassExactly : Type 0
+PassExactly = (s report : List ℕ) → AllBytes s → Examination s report → Line "verdict PASS" report ↔ ((m : Measured s) × (flaggedWords m ≤ m .allowed))
+
+-- FAIL exactly if it was measured and there are more
+abbrev pub FailExactly : Type 0
+FailExactly = (s report : List ℕ) → AllBytes s → Examination s report → Line "verdict FAIL" report ↔ ((m : Measured s) × (m .allowed < flaggedWords m))
+
+-- everything else is NOT MEASURED
+abbrev pub NotMeasuredExactly : Type 0
+NotMeasuredExactly = (s report : List ℕ) → AllBytes s → Examination s report → Line "verdict NOT MEASURED" report ↔ (Measured s → ⊥)
+
+-- The program: the run that it comes to over the bytes s is examined as above; and where a read failed, whatever went before it, the report says NOT MEASURED. That
+-- s is what the input brought is read off the program and no theorem (docs/TRUST.md)
+abbrev pub ProgramSays : Type 0
+ProgramSays = (s : List ℕ) → Examination s (text (followed s false)) × Line "verdict NOT MEASURED" (text (followed s true))
+
+-- no capture has two meanings: what was ordered, and the symbols, are those that the bytes say
+abbrev pub MeasuredOnce : Type 0
+MeasuredOnce =
+    (s : List ℕ) (m n : Measured s)
+    → (m .start ≡ n .start) × (m .asked ≡ n .asked) × (m .allowed ≡ n .allowed) × ((k : ℕ) → k < m .asked → m .frames k ≡ n .frames k)
+
+-- every capture can be examined, by either walk and into any buffer that holds the report
+abbrev pub ExaminationsExist : Type 0
+ExaminationsExist =
+    (s : List ℕ)
+    → Stepwise s (examined s .run)
+    × ((buffer : List ℕ) → length (text (examined s .run)) ≤ length buffer → (report : List ℕ) × (e : Examination s report) × (e .buffer ≡ buffer))
+
+-- every capture that begins with an order is one of these
+abbrev pub ArrivedAlways : Type 0
+ArrivedAlways = (s : List ℕ) (start asked allowed next : ℕ) → AllBytes s → readAt s 0 ≡ Order start asked allowed next → Arrived s
+
+-- For the examiner: a capture with a frame missing, doubled, out of order, cut or unlocked is never PASS
+pub record NeverPass : Type 0 where
+  -- the number of a frame that was ordered is not among those that came
+  pub missing : (s report : List ℕ) → AllBytes s → Examination s report → (a : Arrived s)
+      → (i : ℕ) → i < a .asked → ((k : ℕ) → k < a .n → a .numbers k ≢ frameNumber (a .start) i) → Line "verdict PASS" report → ⊥
+  -- two frames came with one number
+  pub doubled : (s report : List ℕ) → AllBytes s → Examination s report → (a : Arrived s)
+      → (j k : ℕ) → j < k → k < a .n → a .numbers j ≡ a .numbers k → Line "verdict PASS" report → ⊥
+  -- a frame came with another number than the next
+  pub outOfOrder : (s report : List ℕ) → AllBytes s → Examination s report → (a : Arrived s)
+      → (k : ℕ) → k < a .n → a .numbers k ≢ frameNumber (a .start) k → Line "verdict PASS" report → ⊥
+  -- behind the frames stands something more: a frame cut short, a second order, any bytes
+  pub cut : (s report : List ℕ) → AllBytes s → Examination s report → (a : Arrived s) → a .rest ≢ [] → Line "verdict PASS" report → ⊥
+  -- a frame does not lock
+  pub unlocked : (s report : List ℕ) → AllBytes s → Examination s report → (a : Arrived s)
+      → (k : ℕ) → k < a .n → locks (a .frames k) 0 ≡ false → Line "verdict PASS" report → ⊥
+
+-- For the examiner: PASS means that every ordered frame's 384 words were counted. The report is that of as many frames accepted as asked for, none missing, and the
+-- words with each flag over all of them
+abbrev pub AllCounted : Type 0
+AllCounted =
+    (s report : List ℕ) → AllBytes s → Examination s report → Line "verdict PASS" report
+    → (m : Measured s) × (examined s .run ≡ measuredRun m) × (report ≡ text (measuredRun m)) × (total (measuredRun m .account .words) ≡ 384 * m .asked)
+
+-- and whatever the verdict, the report shows 384 words for each frame accepted
+abbrev pub AlwaysCounted : Type 0
+AlwaysCounted = (s : List ℕ) → total (examined s .run .account .words) ≡ 384 * examined s .run .account .accepted
+
+-- the numbers by which a record stops a run: 6 to 11. 12 never comes, since a frame that was received brings its 384 words
+abbrev pub StepNumbers : Type 0
+StepNumbers = (st : State) (s : List ℕ) → (stepRefusal st s ≡ 0) ⊎ ((6 ≤ stepRefusal st s) × (stepRefusal st s ≤ 11))

@@ -1,0 +1,3 @@
+pub mod LaneWords
+pub mod Laying
+pub mod Determined

@@ -1,0 +1,3 @@
+pub mod Permutation
+pub mod Interleaver
+pub mod Stream

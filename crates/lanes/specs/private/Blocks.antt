@@ -1,0 +1,58 @@
+-- What the code's own functions say of whole blocks: a lane's frame and its store are 51 blocks of five bytes, and a stage moves them. No promise to a
+-- caller rests on a definition here.
+-- Assumes nothing.
+use mathlib.Core.Path.{_≡_}
+use mathlib.Core.Bool.{cond}
+use mathlib.Core.List.{List}
+use Prim.Native.Nat.{ℕ, suc, _+_, _*_, _-_, _/_, _%_, _<_}
+use lib.Dec.{eqb, ltb}
+use lib.Bits.{bitAnd, bitXor}
+use lib.ListN.{getD}
+use Rattle.bits.specs.definitions.Bits.{bitOf}
+use Rattle.lanes.specs.definitions.Permutation.{named}
+use Rattle.lanes.specs.definitions.Interleaver.{Rows, rowAt}
+
+-- where block b of lane p begins in a frame with its store behind it: the frame has 33 blocks a lane, and the store 18
+unfoldable pub blockStart : ℕ → ℕ → ℕ
+blockStart p b = cond (ltb b 33) (165 * p + 5 * b) (5280 + 90 * p + 5 * (b - 33))
+
+-- byte c of it
+unfoldable pub blockByte : List ℕ → ℕ → ℕ → ℕ → ℕ
+blockByte z p b c = getD z (blockStart p b + c) 0
+
+-- the block that comes out as block b: number b / 3 of row b mod 3
+unfoldable pub outFrom : Rows → ℕ → ℕ
+outFrom R b = cond (ltb (b / 3) (d)) (33 + (R .start (b % 3) + (d - suc (b / 3)))) (3 * (b / 3 - d) + b % 3)
+  where
+    d : ℕ
+    d = R .depth (b % 3)
+
+-- the block that is kept as block j of the store
+unfoldable pub keptFrom : Rows → ℕ → ℕ
+keptFrom R j = cond (ltb q 11) (3 * (11 - suc q) + r) (33 + (R .start r + (q - 11)))
+  where
+    r : ℕ
+    r = rowAt R j
+
+    q : ℕ
+    q = j - R .start r
+
+-- of the 51 blocks after a stage, the 33 that come out and the 18 that are kept, the block that block b was
+unfoldable pub source : Rows → ℕ → ℕ
+source R b = cond (ltb b 33) (outFrom R b) (keptFrom R (b - 33))
+
+-- the bits of b where m has a bit, else those of a
+unfoldable pub mergedByte : ℕ → ℕ → ℕ → ℕ
+mergedByte a b m = bitXor a (bitAnd (bitXor a b) m)
+
+-- the table of masks: bit k of byte c of a block lies in symbol (8 c + k) / 10, which is exchanged if the set named e has its place
+pub record IsMasks (t : List ℕ) : Type 0 where
+  pub entry : (e c k : ℕ) → e < 16 → c < 5 → k < 8 → eqb (bitOf 8 (getD t (5 * e + c) 0) k) 1 ≡ named e ((8 * c + k) / 10)
+
+-- a table of numbers of blocks
+pub record Below51 (t : List ℕ) : Type 0 where
+  pub below : (b : ℕ) → getD t b 0 < 51
+
+-- the table of a stage
+pub record IsSource (R : Rows) (t : List ℕ) : Type 0 where
+  pub entry : (b : ℕ) → b < 51 → getD t b 0 ≡ source R b

@@ -1,0 +1,61 @@
+-- Pilots: table 5 is what table 4 produces, only outer levels occur; and what a pilot's test comes to.
+-- Assumes nothing.
+use mathlib.Core.Path.{_≡_, refl}
+use mathlib.Core.Bool.{Bool, cond, not}
+use mathlib.Core.Logic.{_⊎_, inl, inr}
+use mathlib.Core.List.{List}
+use Prim.Native.Nat.{ℕ, zero, suc, _+_, _-_, _*_, _/_, _%_, _^_, _<_, _≤_}
+use native.Mathlib.Omega.{arith}
+use lib.ListN.{length, getD}
+use lib.Dec.{T, eqb, eqb→eq}
+use lib.IntN.{pos, negsuc}
+use borrow.Author.Tests.{le-ltb, lt-ltb, eq-eqb, ne-eqb}
+use Rattle.bits.specs.definitions.Bits.{tabulate}
+use Rattle.bits.proofs.Table.{each, range-rule}
+use Rattle.pilots.specs.declared.Level.the-variants as level
+use Rattle.pilots.specs.definitions.Levels.{levelOf}
+use Rattle.pilots.specs.definitions.Table5.{pilots}
+use Rattle.pilots.specs.definitions.Pilots.{registerNext, leaves, labelsOf, pilotOf, met}
+
+-- table 5 is what the polynomial and the seeds of table 4 produce
+pub tables-agree : pilots ≡ tabulate 96 pilotOf
+unfolding pilots tabulate pilotOf labelsOf leaves registerNext
+tables-agree = refl
+
+-- a pilot's label in tributary t
+abbrev pub pilotLabel : ℕ → ℕ → ℕ
+pilotLabel k t = getD pilots k 0 / 4 ^ (3 - t) % 4
+
+outer-ok : ℕ → Bool
+outer-ok k = each (λ t. eqb (pilotLabel k t % 2) 0) 4 0
+
+outer-test : T (each outer-ok 96 0)
+unfolding outer-ok pilots
+outer-test = tt
+
+-- only outer levels occur
+pub outer : (k t : ℕ) → k < 96 → t < 4 → (levelOf (pilotLabel k t) ≡ level.At (negsuc 2)) ⊎ (levelOf (pilotLabel k t) ≡ level.At (pos 3))
+unfolding outer-ok levelOf
+outer k t h l =
+    go (pilotLabel k t) (omega arith)
+    (eqb→eq (pilotLabel k t % 2) 0
+    (range-rule (λ t. eqb (pilotLabel k t % 2) 0) 4 0 (range-rule outer-ok 96 0 outer-test k (omega arith) (omega arith)) t (omega arith) (omega arith)))
+  where
+    go : (n : ℕ) → n < 4 → n % 2 ≡ 0 → (levelOf n ≡ level.At (negsuc 2)) ⊎ (levelOf n ≡ level.At (pos 3))
+    go zero b e = inl refl
+    go (suc zero) b e = absurd (omega arith)
+    go (suc (suc zero)) b e = inr refl
+    go (suc (suc (suc n))) b e = absurd (omega arith)
+
+module _ (s : List ℕ) (o i : ℕ) where
+  pub pilot-missing : length s ≤ o + 64 * i → _≡_ {A = ℕ} 1 (cond (not (met s o i)) 1 0)
+  unfolding met
+  pilot-missing h = rw (le-ltb (o + 64 * i) (length s) h)
+
+  pub pilot-met : o + 64 * i < length s → getD s (o + 64 * i) 0 ≡ getD pilots i 0 → _≡_ {A = ℕ} 0 (cond (not (met s o i)) 1 0)
+  unfolding met
+  pilot-met h e = rw (lt-ltb (o + 64 * i) (length s) h, eq-eqb (getD s (o + 64 * i) 0) (getD pilots i 0) e)
+
+  pub pilot-differs : o + 64 * i < length s → (getD s (o + 64 * i) 0 ≡ getD pilots i 0 → ⊥) → _≡_ {A = ℕ} 1 (cond (not (met s o i)) 1 0)
+  unfolding met
+  pilot-differs h e = rw (lt-ltb (o + 64 * i) (length s) h, ne-eqb (getD s (o + 64 * i) 0) (getD pilots i 0) e)

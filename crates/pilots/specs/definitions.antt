@@ -1,0 +1,3 @@
+pub mod Levels
+pub mod Table5
+pub mod Pilots

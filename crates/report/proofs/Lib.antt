@@ -1,0 +1,5 @@
+pub mod Decimal
+pub mod Writing
+pub mod Lengths
+pub mod Examples
+pub mod Determined

@@ -1,0 +1,33 @@
+-- `report::put` meets its contract: the bytes are copied over a part of their length. Assumes nothing.
+use Rattle.report.proofs.Writing.{wrote-copied}
+use borrow.Author.Needs.{needs}
+use Rattle.report.proofs.put.Statement.{statement}
+use Rattle.report.proofs.put.Tie as tie
+
+add-end : tie.Need-add-end
+add-end c = search needs
+
+sub-copy : tie.Need-sub-copy
+sub-copy c = search needs
+
+part-copy-start : tie.Need-part-copy-start
+part-copy-start c = search needs
+
+part-copy-end : tie.Need-part-copy-end
+part-copy-end c = search needs
+
+copy-requires : tie.Need-copy-requires
+copy-requires c κs = search needs
+
+same-length : tie.Need-same-length
+same-length c = search needs
+
+returns : tie.Need-returns
+returns c =
+    let x = c .before .before .before .before .before .before .args in
+    wrote-copied (x .from .now) (x .out .now) (x .at) _ (c .before .before .before .before .before .before .pre) (c .before .before .copy .ensures)
+
+pub put-spec : {M : Type 1} → statement M
+put-spec =
+    tie.close
+    (tie.spec add-end sub-copy part-copy-start part-copy-end copy-requires same-length returns)

@@ -1,0 +1,2 @@
+pub mod Rotating
+pub mod Places

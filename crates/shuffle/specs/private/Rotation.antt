@@ -1,0 +1,41 @@
+-- The turning of a word's information, and of every word of a row.
+-- Assumes nothing.
+use mathlib.Core.Path.{_≡_}
+use mathlib.Core.Logic.{_≢_}
+use mathlib.Core.Bool.{cond}
+use mathlib.Core.List.{List}
+use Prim.Native.Nat.{ℕ, _+_, _*_, _-_, _/_, _%_, _^_, _<_}
+use lib.Dec.{ltb}
+use lib.ListN.{length, getD}
+use Rattle.bits.specs.definitions.Bits.{number, bitOf}
+use Rattle.bits.specs.definitions.Words.{wordAt, rowOf}
+
+-- the bit that comes to place r when the 110 information bits rotate by n places
+unfoldable pub rotatedFrom : ℕ → ℕ → ℕ
+rotatedFrom n r = cond (ltb r 110) ((r + (110 - n)) % 110) r
+
+-- a word whose information has rotated by n places
+unfoldable pub rotated : ℕ → ℕ → ℕ
+rotated n w = number 126 (λ r. bitOf 126 w (rotatedFrom n r))
+
+-- the n last bits of x and then the 55 - n first of y, both numbers of 55 bits
+unfoldable pub crossed : ℕ → ℕ → ℕ → ℕ
+crossed n x y = x % 2 ^ n * 2 ^ (55 - n) + y / 2 ^ n
+
+-- the first half of the halves x and y rotated by n places; the second half is that of y and x
+unfoldable pub rotatedFirst : ℕ → ℕ → ℕ → ℕ
+rotatedFirst n x y = cond (ltb n 55) (crossed n y x) (crossed (n - 55) x y)
+
+-- word i of the row o is w
+abbrev pub Holds : List ℕ → ℕ → ℕ → Type 0
+Holds o i w = (getD o (2 * i) 0 ≡ w / 2 ^ 64) × (getD o (2 * i + 1) 0 ≡ w % 2 ^ 64)
+
+-- the row o has the first k words of lane p of the row s, rotated by n places; its other lanes are those of o₀
+pub record LaneRotated (n p : ℕ) (s o₀ : List ℕ) (k : ℕ) (o : List ℕ) : Type 0 where
+  pub long : length o ≡ 768
+  pub here : (i : ℕ) → i < 384 → i % 32 ≡ p → i / 32 < k → Holds o i (rotated n (wordAt s i))
+  pub there : (j : ℕ) → j / 2 % 32 ≢ p → getD o j 0 ≡ getD o₀ j 0
+
+-- a row of words, each of lane p rotated by m p places
+unfoldable pub rotatedRow : ℕ → List ℕ → List ℕ
+rotatedRow m s = rowOf 384 (λ i. rotated (m * (i % 32) % 110) (wordAt s i))

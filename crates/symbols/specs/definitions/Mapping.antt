@@ -1,0 +1,31 @@
+-- The mapping (01, mapping; 000, 6; 001): where a place of a word goes in the frame, and where it comes from.
+-- Assumes nothing.
+use Prim.Native.Nat.{ℕ, _+_, _*_, _/_, _%_}
+
+-- the lane that tributary t (XI, XQ, YI, YQ) takes its two bits from, in symbol l of the 504 of one word of all lanes
+unfoldable pub laneOf : ℕ → ℕ → ℕ
+laneOf l t = 4 * (l / 63) + (2 * l + l / 2 % 2 + t) % 4
+
+-- the place of the label's upper bit, the same in all four tributaries
+unfoldable pub upper : ℕ → ℕ
+upper l = 2 * (l % 63) + l % 2
+
+-- the place of the label's lower bit
+unfoldable pub lower : ℕ → ℕ
+lower l = 2 * (l % 63) + (l + 1) % 2
+
+-- where payload symbol m stands in the frame: behind the pilot of its 63
+unfoldable pub payloadAt : ℕ → ℕ
+payloadAt m = 64 * (m / 63) + 1 + m % 63
+
+-- the other way: the symbol, of the 504, that carries place r of lane p
+unfoldable pub symbolOf : ℕ → ℕ → ℕ
+symbolOf p r = 63 * (p / 4) + r / 2
+
+-- the tributary that carries it
+unfoldable pub tributaryOf : ℕ → ℕ → ℕ
+tributaryOf p r = (p + 3 * (2 * symbolOf p r + symbolOf p r / 2 % 2)) % 4
+
+-- the bit of the symbol's byte that it is, the top bit being bit 0
+unfoldable pub bitIn : ℕ → ℕ → ℕ
+bitIn p r = 2 * tributaryOf p r + (r + symbolOf p r) % 2

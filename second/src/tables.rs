@@ -1,0 +1,514 @@
+//! The tables of the proved code, worked out from their rules: as code, and as lists for the proofs.
+//!
+//! `files` gives each file whole, with its comments, as it stands below crates/.
+
+use crate::lanes::{
+    BLOCK_BYTES, FRAME_BLOCKS, KEPT_BLOCKS, ROWS, ROW_1_BLOCKS, ROW_2_BLOCKS, SYMBOL_BITS,
+};
+use crate::symbols::{source, PILOTS, PILOT_COUNT};
+use crate::word::{only_bit, parity, remainder, split, INFORMATION_BITS, PARITY_BITS, WORD_BITS};
+
+/// A table: its names as code and as list, and the rule of its entries.
+struct Table {
+    comment: &'static str,
+    name: &'static str,
+    element: &'static str,
+    length: usize,
+    entry: fn(usize) -> u64,
+    list: &'static str,
+    /// Entries a line of the list.
+    line: usize,
+}
+
+/// The two files of a crate: src/tables.rt, and the same as lists.
+struct Pair {
+    folder: &'static str,
+    comment: &'static str,
+    lists: Lists,
+    tables: &'static [Table],
+}
+
+/// A file of lists. A list without a comment of its own has its table's name for one.
+struct Lists {
+    file: &'static str,
+    comment: &'static str,
+    declared: &'static str,
+    of_list: Option<&'static str>,
+}
+
+const OF_PROOFS: Lists = Lists {
+    file: "proofs/Lists.antt",
+    comment: "The tables of src/tables.rt as lists. Written by the program `tables` of second/.",
+    declared: "abbrev pub",
+    of_list: None,
+};
+
+static PAIRS: [Pair; 4] = [
+    Pair {
+        folder: "decoder_tables",
+        comment: "The tables of the decoder. Written by the program `tables` of second/; \
+            proofs/Entries has their rules: of REMAINDERS, COLUMN and BIT by a test over the\n\
+            table, of the other three together by a test over all 8,002 patterns of at most two bits.",
+        lists: OF_PROOFS,
+        tables: &[
+            Table {
+                comment: "The remainder of byte b times x^(8 p + 16), at 256 p + b.",
+                name: "REMAINDERS",
+                element: "u16",
+                length: 256 * INFORMATION_BITS.div_ceil(8) as usize,
+                entry: remainder_of_byte,
+                list: "remainders",
+                line: 16,
+            },
+            Table {
+                comment: "For byte b of place k of a remainder, at 256 k + b: its values at a and \
+                    at a^3 in the field of 128, a^7 = a^3 + 1, in seven bits each.",
+                name: "FIELD",
+                element: "u16",
+                length: 256 * PARITY_BITS as usize / 8,
+                entry: values,
+                list: "field",
+                line: 16,
+            },
+            Table {
+                comment: "For a^e of the field, 125 - e round 127, the place of the bit whose \
+                    value at a it is, and above it three times that round 127. \
+                    No bit has the value 0: 126.",
+                name: "LOG",
+                element: "u16",
+                length: ROUND + 1,
+                entry: place_and_three_times,
+                list: "log",
+                line: 16,
+            },
+            Table {
+                comment: "By how much two places lie behind the place of their sum, in two halves \
+                    of seven bits; 0 where no two places do. Twice round 127.",
+                name: "RATIO",
+                element: "u16",
+                length: 2 * ROUND + 1,
+                entry: two_behind,
+                list: "ratio",
+                line: 16,
+            },
+            Table {
+                comment: "The remainder of the word whose only bit is bit i.",
+                name: "COLUMN",
+                element: "u16",
+                length: WORD_BITS as usize,
+                entry: |i| remainder(only_bit(i as u8)).into(),
+                list: "bitColumns",
+                line: 16,
+            },
+            Table {
+                comment: "The two numbers of the word whose only bit is bit i, at 2 i.",
+                name: "BIT",
+                element: "u64",
+                length: 2 * WORD_BITS as usize,
+                entry: |at| <[u64; 2]>::from(split(only_bit((at / 2) as u8)))[at % 2],
+                list: "bit",
+                line: 4,
+            },
+        ],
+    },
+    Pair {
+        folder: "lanes",
+        comment: "The tables of the stages. Written by the program `tables` of second/; \
+            proofs/Entries has the rule of each, by a test over the whole table.",
+        lists: OF_PROOFS,
+        tables: &[
+            Table {
+                comment: "Where each of a lane's 51 blocks comes from when a frame is \
+                    interleaved: the 33 that come out, then the 18 that are kept.",
+                name: "SENDER",
+                element: "usize",
+                length: FRAME_BLOCKS + KEPT_BLOCKS,
+                entry: |b| block_before([0, ROW_1_BLOCKS, ROW_2_BLOCKS], b),
+                list: "senderSources",
+                line: 17,
+            },
+            Table {
+                comment: "The same when a frame is deinterleaved.",
+                name: "RECEIVER",
+                element: "usize",
+                length: FRAME_BLOCKS + KEPT_BLOCKS,
+                entry: |b| block_before([ROW_2_BLOCKS, ROW_1_BLOCKS, 0], b),
+                list: "receiverSources",
+                line: 17,
+            },
+            Table {
+                comment: "Which bits of byte c of a block are exchanged with the partner lane, \
+                    at 5 e + c for the set of places named e.",
+                name: "MASKS",
+                element: "u8",
+                length: 16 * BLOCK_BYTES,
+                entry: bits_of_places,
+                list: "masks",
+                line: 17,
+            },
+        ],
+    },
+    Pair {
+        folder: "pilots",
+        comment: "The table of the pilots. Written by the program `tables` of second/; \
+            specs/definitions/Table5 has it as a list.",
+        lists: Lists {
+            file: "specs/definitions/Table5.antt",
+            comment: "The pilots as 000 prints them (7.1, table 5), a byte each: \
+                XI, XQ, YI, YQ, two bits each, XI on top.",
+            declared: "unfoldable pub",
+            of_list: Some("the 96 pilot bytes, copied from table 5, which decides"),
+        },
+        tables: &[Table {
+            comment: "The pilots, copied from table 5 of 000.",
+            name: "PILOTS",
+            element: "u8",
+            length: PILOT_COUNT,
+            entry: |row| PILOTS[row].into(),
+            list: "pilots",
+            line: 16,
+        }],
+    },
+    Pair {
+        folder: "mapper_tables",
+        comment: "The tables of the mapping. Written by the program `tables` of second/; \
+            proofs/Entries has the rule of each, by a test over the whole table.",
+        lists: OF_PROOFS,
+        tables: &[
+            Table {
+                comment: "For each remainder of a symbol's number by 4, each lane of four and \
+                    each byte of four pairs of its bits: \
+                    what they put into the bytes of four symbols.",
+                name: "PARTS",
+                element: "u32",
+                length: 4 * 4 * 256,
+                entry: part_of_symbols,
+                list: "parts",
+                line: 8,
+            },
+            Table {
+                comment: "For each remainder of a symbol's number by 4, and each symbol's byte: \
+                    the four lanes' pairs of bits, in fields of 16 bits.",
+                name: "DIBITS",
+                element: "u64",
+                length: 4 * 256,
+                entry: dibits_of_symbol,
+                list: "dibits",
+                line: 8,
+            },
+        ],
+    },
+];
+
+/// Every file: its path below crates/, and its text.
+pub fn files() -> impl Iterator<Item = (String, String)> {
+    PAIRS.iter().flat_map(|pair| {
+        let path = |file: &str| format!("{}/{file}", pair.folder);
+        [
+            (path("src/tables.rt"), as_code(pair)),
+            (path(pair.lists.file), as_lists(pair)),
+        ]
+    })
+}
+
+fn as_code(pair: &Pair) -> String {
+    let mut text = commented("//", pair.comment);
+    for table in pair.tables {
+        let (name, element, length) = (table.name, table.element, table.length);
+        text += "\n";
+        text += &commented("//", table.comment);
+        text += &format!("pub const {name}: [{element}; {length}] = [\n");
+        for entry in table.entries() {
+            text += &format!("    {entry},\n");
+        }
+        text += "];\n";
+    }
+    text
+}
+
+fn as_lists(pair: &Pair) -> String {
+    let lists = &pair.lists;
+    let mut text = commented("--", lists.comment);
+    text += "-- Assumes nothing.\n";
+    text += "use mathlib.Core.List.{List, [], _∷_}\n";
+    text += "use Prim.Native.Nat.{ℕ}\n";
+    for table in pair.tables {
+        let (name, declared) = (table.list, lists.declared);
+        let own_name = format!("`{}`", table.name);
+        text += "\n";
+        text += &commented("--", lists.of_list.unwrap_or(&own_name));
+        text += &format!("{declared} {name} : List ℕ\n{name} =\n");
+        for line in table.entries().chunks(table.line) {
+            text += &format!("    {} ∷\n", line.join(" ∷ "));
+        }
+        text.pop();
+        text += " []\n";
+    }
+    text
+}
+
+fn commented(mark: &str, comment: &str) -> String {
+    let lines = comment.lines().map(|line| format!("{mark} {line}\n"));
+    lines.collect()
+}
+
+impl Table {
+    fn entries(&self) -> Vec<String> {
+        let entries = (0..self.length).map(self.entry);
+        entries.map(|entry| entry.to_string()).collect()
+    }
+}
+
+fn remainder_of_byte(at: usize) -> u64 {
+    let (place, byte) = (at / 256, at as u8);
+    // In two steps: the uppermost byte times x^16 would reach above a word.
+    parity(remainder(u128::from(byte) << (8 * place)).into()).into()
+}
+
+/// How many powers the a of the field of 128 has.
+const ROUND: usize = 127;
+
+/// a^n in seven bits, the lowest for a^0, where a^7 = a^3 + 1.
+fn power(n: usize) -> u64 {
+    (0..n % ROUND).fold(1, |value, _| match value >> 6 {
+        0 => value << 1,
+        _ => value << 1 ^ 0b1000_1001,
+    })
+}
+
+/// The e of a^e; none for 0.
+fn logarithm(value: u64) -> Option<usize> {
+    (0..ROUND).find(|&e| power(e) == value)
+}
+
+fn values(at: usize) -> u64 {
+    let (place, byte) = (at / 256, at as u8);
+    let bits = (0..8).filter(|bit| byte >> bit & 1 == 1);
+    bits.map(|bit| 8 * place + bit)
+        .fold(0, |sum, n| sum ^ power(3 * n) << 7 ^ power(n))
+}
+
+fn place_and_three_times(value: usize) -> u64 {
+    // Bit i has the value a^(125 - i), and 252 is 125 round 127.
+    let place = logarithm(value as u64).map_or(126, |e| (252 - e) % ROUND);
+    ((3 * place % ROUND) << 7 | place) as u64
+}
+
+/// Of two bits with the values X and Y at a, and S = X + Y: x = X/S and y = Y/S have the sum 1, so
+/// X^3 + Y^3 is 1 + x + x^2 times S^3. Where x is a^u, the place of X is 127 - u behind that of S.
+fn two_behind(at: usize) -> u64 {
+    // Three times the place of S less that of X^3 + Y^3 is 250 more than the quotient's logarithm.
+    let quotient = power(at + 2 * ROUND - 250);
+    let leads = |u: usize| 1 ^ power(u) ^ power(2 * u) == quotient;
+    // One of x and y is odd: it stands on top.
+    let top = (1..ROUND).find(|&u| power(u) & 1 == 1 && leads(u));
+    top.map_or(0, |u| {
+        let other = logarithm(power(u) ^ 1).expect("x is not 1");
+        ((ROUND - u) << 7 | (ROUND - other)) as u64
+    })
+}
+
+/// The number before a stage of what is block b after it, where the rows hold so many blocks.
+fn block_before(rows: [usize; ROWS], b: usize) -> u64 {
+    let kept_from = |row: usize| FRAME_BLOCKS + rows[..row].iter().sum::<usize>();
+    // A row is a queue: what it keeps, oldest first, then the frame's blocks. From its front come as
+    // many as the frame has brought, and the rest is kept, newest first.
+    let in_row = |row: usize, n: usize| match n.checked_sub(rows[row]) {
+        None => kept_from(row) + rows[row] - 1 - n,
+        Some(turn) => ROWS * turn + row,
+    };
+    let before = if b < FRAME_BLOCKS {
+        in_row(b % ROWS, b / ROWS)
+    } else {
+        let row = (0..ROWS).rfind(|&row| kept_from(row) <= b);
+        let row = row.expect("a row");
+        let newest = FRAME_BLOCKS / ROWS + rows[row] - 1;
+        in_row(row, newest - (b - kept_from(row)))
+    };
+    before as u64
+}
+
+fn bits_of_places(at: usize) -> u64 {
+    let (places, byte) = (at / BLOCK_BYTES, at % BLOCK_BYTES);
+    (8 * byte..8 * byte + 8).fold(0, |mask, bit| {
+        mask << 1 | (places >> (bit / SYMBOL_BITS) & 1) as u64
+    })
+}
+
+/// From dibit to label at symbol l, and from label to dibit: both exchange the two bits or neither.
+fn turned(l: usize, bits: u64) -> u64 {
+    let (_, places) = source(l, 0);
+    places
+        .into_iter()
+        .fold(0, |sum, place| sum << 1 | bits >> (1 - place % 2) & 1)
+}
+
+fn part_of_symbols(at: usize) -> u64 {
+    let (first, lane, byte) = (at / 1024, at / 256 % 4, at as u8);
+    (0..4).fold(0, |symbols, n| {
+        let l = first + n;
+        let t = (0..4).find(|&t| source(l, t).0 == lane);
+        let dibit = byte >> (6 - 2 * n) & 3;
+        let label = turned(l, dibit.into());
+        symbols << 8 | label << (6 - 2 * t.expect("each lane has a tributary"))
+    })
+}
+
+fn dibits_of_symbol(at: usize) -> u64 {
+    let (l, symbol) = (at / 256, at as u8);
+    (0..4).fold(0, |dibits, t| {
+        let label = symbol >> (6 - 2 * t) & 3;
+        dibits | turned(l, label.into()) << (48 - 16 * source(l, t).0)
+    })
+}
+
+#[cfg(test)]
+mod tests {
+    use super::*;
+    use crate::lanes::{deinterleave, interleave, permute};
+    use crate::lanes::{KEPT_BYTES, LANES, LANES_BYTES, LANE_BYTES, STORE_BYTES};
+    use crate::symbols::{frame, shuffle, FRAME_SYMBOLS, ROW_PAYLOAD, ROW_SYMBOLS};
+    use crate::word::{encode_frame, join, FRAME_WORDS};
+    use crate::xorshift::Xorshift;
+
+    fn entries(name: &str) -> Vec<u64> {
+        let mut tables = PAIRS.iter().flat_map(|pair| pair.tables);
+        let table = tables.find(|table| table.name == name);
+        let table = table.expect("a table of that name");
+        (0..table.length).map(table.entry).collect()
+    }
+
+    #[test]
+    fn remainders_by_long_division() {
+        for (at, entry) in entries("REMAINDERS").into_iter().enumerate() {
+            let mut rest = (at as u128 % 256) << (8 * (at / 256) + 16);
+            for power in (16..128).rev() {
+                if rest >> power & 1 == 1 {
+                    rest ^= 0x14EAB << (power - 16);
+                }
+            }
+            assert_eq!(u128::from(entry), rest, "{at}");
+        }
+    }
+
+    #[test]
+    fn columns_are_the_remainders_of_the_bits() {
+        let (remainders, bit) = (entries("REMAINDERS"), entries("BIT"));
+        for (i, column) in entries("COLUMN").into_iter().enumerate() {
+            let word = u128::from(bit[2 * i]) << 64 | u128::from(bit[2 * i + 1]);
+            assert_eq!(word, only_bit(i as u8));
+            let bytes = (word >> 16).to_le_bytes().into_iter().take(14).enumerate();
+            let rest = bytes.fold(word as u16, |sum, (p, byte)| {
+                sum ^ remainders[256 * p + usize::from(byte)] as u16
+            });
+            assert_eq!(u64::from(rest), column);
+        }
+    }
+
+    #[test]
+    fn flips_and_pairs_lead_back_to_their_places() {
+        let [field, log, ratio, column] = ["FIELD", "LOG", "RATIO", "COLUMN"].map(entries);
+        // From a remainder to two places, which are one where only one bit is flipped.
+        let places = |rest: u64| {
+            let values = field[rest as usize % 256] ^ field[256 + rest as usize / 256];
+            let of_sum = log[values as usize % 128];
+            let of_cubes = log[values as usize / 128] % 128;
+            let behind = ratio[(of_sum / 128 + 127 - of_cubes) as usize];
+            let mut two = [behind / 128, behind % 128].map(|n| (of_sum % 128 + n) % 127);
+            two.sort();
+            two
+        };
+        let mut patterns = 0;
+        for i in 0..column.len() {
+            assert_eq!(places(column[i]), [i as u64; 2]);
+            for j in i + 1..column.len() {
+                assert_eq!(places(column[i] ^ column[j]), [i as u64, j as u64]);
+                patterns += 1;
+            }
+            patterns += 1;
+        }
+        assert_eq!(patterns, 8_001);
+    }
+
+    type Stage = fn(&[u8; LANES_BYTES], &mut [u8; STORE_BYTES], &mut [u8; LANES_BYTES]);
+
+    #[test]
+    fn stages_move_blocks_by_the_tables() {
+        let stages: [(&str, Stage); 2] = [("SENDER", interleave), ("RECEIVER", deinterleave)];
+        for (name, stage) in stages {
+            // Each block has its number in each of its bytes.
+            let mut lanes = [0; LANES_BYTES];
+            for (n, byte) in lanes.iter_mut().enumerate() {
+                *byte = (n % LANE_BYTES / BLOCK_BYTES) as u8;
+            }
+            let mut store = [0; STORE_BYTES];
+            for (n, byte) in store.iter_mut().enumerate() {
+                *byte = (FRAME_BLOCKS + n % KEPT_BYTES / BLOCK_BYTES) as u8;
+            }
+            let mut out = [0xFF; LANES_BYTES];
+            stage(&lanes, &mut store, &mut out);
+            let table = entries(name);
+            for p in 0..LANES {
+                let out = out[LANE_BYTES * p..][..LANE_BYTES].chunks(BLOCK_BYTES);
+                let kept = store[KEPT_BYTES * p..][..KEPT_BYTES].chunks(BLOCK_BYTES);
+                let after: Vec<_> = out.chain(kept).collect();
+                assert_eq!(after.len(), table.len());
+                for (block, from) in after.into_iter().zip(&table) {
+                    assert_eq!(block, [*from as u8; BLOCK_BYTES], "{name}, lane {p}");
+                }
+            }
+        }
+    }
+
+    #[test]
+    fn masks_are_what_the_permutation_exchanges() {
+        for (places, mask) in entries("MASKS").chunks(BLOCK_BYTES).enumerate() {
+            let mut lanes = [0; LANES_BYTES];
+            lanes[LANES_BYTES / 2..].fill(0xFF);
+            permute(&mut lanes, places as u8);
+            for block in lanes[..LANES_BYTES / 2].chunks(BLOCK_BYTES) {
+                assert!(block.iter().map(|&byte| u64::from(byte)).eq(mask.to_vec()));
+            }
+        }
+    }
+
+    #[test]
+    fn parts_make_the_frame() {
+        let parts = entries("PARTS");
+        let mut random = Xorshift::new(81);
+        let mut words = [0; 2 * FRAME_WORDS];
+        words.fill_with(|| random.next_u64());
+        encode_frame(&mut words);
+        let mut symbols = [0; FRAME_SYMBOLS];
+        frame(&words, &mut symbols);
+        let rows = symbols.chunks(ROW_SYMBOLS).zip(words.chunks(8));
+        for (row, (symbols, four)) in rows.enumerate() {
+            let g = row % 8;
+            let bytes = [0, 1, 2, 3].map(|r| {
+                let word = shuffle(4 * g + r, join(four[2 * r], four[2 * r + 1]));
+                (word << 2).to_be_bytes()
+            });
+            for (c, symbols) in symbols[1..].chunks(4).enumerate() {
+                let first = (ROW_PAYLOAD * g + 4 * c) % 4;
+                let part = |r: usize| parts[1024 * first + 256 * r + usize::from(bytes[r][c])];
+                let made = (0..4).fold(0, |sum, r| sum | part(r)) as u32;
+                // The last byte of a word has three dibits only.
+                assert_eq!(made.to_be_bytes()[..symbols.len()], *symbols);
+            }
+        }
+    }
+
+    #[test]
+    fn dibits_undo_parts() {
+        let parts = entries("PARTS");
+        for (at, dibits) in entries("DIBITS").into_iter().enumerate() {
+            let (l, symbol) = (at / 256, at as u64 % 256);
+            let made = (0..4).fold(0, |sum, r| {
+                let dibit = (dibits >> (48 - 16 * r)) as u16;
+                assert!(dibit < 4);
+                sum | parts[1024 * l + 256 * r + (usize::from(dibit) << 6)]
+            });
+            assert_eq!(made, symbol << 24);
+        }
+    }
+}
