@@ -1,53 +1,86 @@
-/* The sending and receiving logic of the 800LR coherent line (OIF-800LR-01.0), the reader of captures, the account of a run and its verdict, for a host program
- * in C. Link with libadderbloom.a: x86-64, System V calling convention.
+/* The sending and receiving logic of the 800LR coherent line (OIF-800LR-01.0), the reader of captures, the account of a run and its verdict, for a host
+ * program in C. Link with libadderbloom.a: x86-64, System V calling convention.
  *
- * Every call ends, and any bytes, lengths and stored numbers are lawful. Nothing allocates or keeps state of its own: what is kept between calls is the caller's,
- * and calls that share no memory may run at once. A call needs up to 70 kB of stack, and calls memcpy and memset.
+ * Every call ends, and any bytes, lengths and stored numbers are lawful. Nothing allocates or keeps state of its own: what is kept between calls is the
+ * caller's, and calls that share no memory may run at once. A call needs up to 70 kB of stack, and calls memcpy and memset.
  *
- * Refusals have numbers. Where a call answers one, 0 says that nothing was refused; any other is the lowest of those that apply, and a refused call changes nothing,
- * except that a record refused in a run stops the run.
- *   by lr800_send, lr800_receive, and 2 by lr800_run_step, 4 by lr800_account_enter
- *     1  input is not LR800_LANES bytes long (sending), LR800_FRAME (receiving)
- *     2  the store is not LR800_STORE bytes long
- *     3  output is not LR800_FRAME bytes long (sending), LR800_LANES (receiving)
- *     4  there are not LR800_FLAGS flag bytes
- *     5  no lock: 25 or more of the 96 pilot bytes differ
- *   by lr800_read, in what it returns, and lr800_run_step
- *     6  a record is cut short
- *     7  its length is not 14 or 6,150
- *     8  its version is not 1
- *     9  its kind does not match its length
- *   by lr800_account_enter, and 10 and 11 by lr800_account_lose and lr800_run_step
- *    10  the frame's number is late: 2^31 or more after the expected one, round 2^32
- *    11  after the entry, accepted or missing frames would stand above 1,000,000, or some tally above 384,000,000
- *    12  the frame's tallies do not add up to 384: some of its flag bytes are above 3
- *
- * What no contract can speak of is the caller's to keep: a pointer leads to as much memory as is said, aligned for its type, that nothing else writes during the call and that is
- * not lent to the call twice; only a slice of length 0 may be null. Padding within a struct may change: compare its members, not its bytes. */
+ * What no contract can speak of is the caller's to keep: a pointer leads to as much memory as is said, aligned for its type, that nothing else writes during
+ * the call and that is not lent to the call twice; only a slice of length 0 may be null. Padding within a struct may change: compare its members, not its
+ * bytes. */
 #ifndef ADDERBLOOM_H
 #define ADDERBLOOM_H
 
 #include <stddef.h>
 #include <stdint.h>
 
+/* The version of this header and of the archive that comes with it. Any change of what a host was told raises the first number, an addition the second,
+ * everything else the third. */
+#define LR800_VERSION_MAJOR 1
+#define LR800_VERSION_MINOR 0
+#define LR800_VERSION_PATCH 0
+#define LR800_VERSION "1.0.0"
+
 #ifdef __cplusplus
 extern "C" {
 #endif
+
+/* ---- Refusals ---- */
+
+/* Where a call answers a refusal's number, 0 says that nothing was refused; any other is the lowest of those that apply, and a refused call changes nothing,
+ * except that a record refused in a run stops the run. */
+enum {
+  LR800_DONE = 0, /* nothing was refused; whether a run goes on is told by its phase */
+  /* by lr800_send, lr800_receive, and 2 by lr800_run_step, 4 by lr800_account_enter */
+  LR800_WRONG_INPUT_LENGTH = 1,   /* input is not LR800_LANES bytes long (sending), LR800_FRAME (receiving) */
+  LR800_WRONG_STORE_LENGTH = 2,   /* the store is not LR800_STORE bytes long */
+  LR800_WRONG_OUTPUT_LENGTH = 3,  /* output is not LR800_FRAME bytes long (sending), LR800_LANES (receiving) */
+  LR800_WRONG_FLAGS_LENGTH = 4,   /* there are not LR800_FLAGS flag bytes */
+  LR800_NO_LOCK = 5,              /* no lock: 25 or more of the 96 pilot bytes differ */
+  /* by lr800_read, in what it returns, and lr800_run_step */
+  LR800_CUT_SHORT = 6,            /* a record is cut short */
+  LR800_WRONG_RECORD_LENGTH = 7,  /* its length is not 14 or 6,150 */
+  LR800_WRONG_RECORD_VERSION = 8, /* its version is not 1 */
+  LR800_WRONG_RECORD_KIND = 9,    /* its kind does not match its length */
+  /* by lr800_account_enter, and 10 and 11 by lr800_account_lose and lr800_run_step */
+  LR800_LATE = 10,                /* the frame's number is late: 2^31 or more after the expected one, round 2^32 */
+  LR800_ABOVE_LIMIT = 11,         /* after the entry, accepted or missing frames would stand above 1,000,000, or some tally above 384,000,000 */
+  LR800_WRONG_TALLIES = 12        /* the frame's tallies do not add up to 384: some of its flag bytes are above 3 */
+};
+
+/* What a refusal's number says, as one line of text with no 0A. Any number is lawful. */
+static inline const char *lr800_refusal_text(uint32_t number) {
+  switch (number) {
+  case LR800_DONE: return "done";
+  case LR800_WRONG_INPUT_LENGTH: return "the input has a wrong length";
+  case LR800_WRONG_STORE_LENGTH: return "the store has a wrong length";
+  case LR800_WRONG_OUTPUT_LENGTH: return "the output has a wrong length";
+  case LR800_WRONG_FLAGS_LENGTH: return "the flags have a wrong length";
+  case LR800_NO_LOCK: return "no lock: 25 or more of the 96 pilots differ";
+  case LR800_CUT_SHORT: return "the record is cut short";
+  case LR800_WRONG_RECORD_LENGTH: return "the record's length is not 14 or 6,150";
+  case LR800_WRONG_RECORD_VERSION: return "the record's version is not 1";
+  case LR800_WRONG_RECORD_KIND: return "the record's kind does not match its length";
+  case LR800_LATE: return "the frame's number is late";
+  case LR800_ABOVE_LIMIT: return "accepted or missing frames or a tally would stand above the limit";
+  case LR800_WRONG_TALLIES: return "the frame's tallies do not add up to 384";
+  default: return "no refusal has this number";
+  }
+}
 
 /* ---- Sending and receiving ---- */
 
 #define LR800_LANES 5280 /* 32 lanes of 165 bytes, lane 0 first; the top bit of a byte goes first */
 #define LR800_STORE 2880 /* a delay store; all zero is fresh, any content is lawful */
 #define LR800_FRAME 6144 /* symbols of a frame, a byte each: XI, XQ, YI, YQ, two bits each, XI on top */
-#define LR800_FLAGS 384 /* a byte for each word of a frame, that of word k of lane p at 32 k + p: 0, 1 or 2 bits mended, 3 flagged */
+#define LR800_FLAGS 384  /* a byte for each word of a frame, that of word k of lane p at 32 k + p: 0, 1 or 2 bits mended, 3 flagged */
 
 /* Sends a frame. The store is the sender's own: lend it to every call of a stream, and to no receiver.
  * Answers 0, 1, 2 or 3. At 0, store and output have been written in full. */
 uint32_t lr800_send(const uint8_t *input, size_t input_length, uint8_t *store, size_t store_length, uint8_t *output, size_t output_length);
 
 /* Receives a frame. The store is the receiver's own: lend it to every call of a stream, and to no sender.
- * Answers 0, 1, 2, 3, 4 or 5. At 0, store, output and flags have been written in full. A frame refused by 5 is lost: it must be entered as a loss
- * (lr800_account_lose), or the account does not know of it. One refused by 1 to 4 was not measured: the host must stop the run.
+ * Answers 0, 1, 2, 3, 4 or 5. At 0, store, output and flags have been written in full. A frame refused by 5, LR800_NO_LOCK, is lost: it must be entered as a
+ * loss (lr800_account_lose), or the account does not know of it. One refused by 1 to 4 was not measured: the host must stop the run.
  * If both stores were fresh at the first frame and every frame was received, each lane comes back 36 blocks (1,440 bits) later, behind zeros. After a frame
  * that was lost or refused, the next 36 blocks of each lane may be wrong, so the next two frames. */
 uint32_t lr800_receive(const uint8_t *input, size_t input_length, uint8_t *store, size_t store_length, uint8_t *output, size_t output_length,
@@ -71,25 +104,31 @@ void lr800_account_open(lr800_account *account, uint32_t start);
 
 /* Enters a frame that was received, by its number and its flag bytes: the frames of a gap before it are missing. Answers 0, 4, 10, 11 or 12; a
  * frame that is refused was not measured, and the host must stop the run: give lr800_verdict a `stopped` other than 0.
- * A frame that is refused here has moved the store that was lent to lr800_receive: only a copy made before can undo that. lr800_run_step keeps this rule itself. */
+ * A frame that is refused here has moved the store that was lent to lr800_receive: only a copy made before can undo that. lr800_run_step keeps this rule
+ * itself. */
 uint32_t lr800_account_enter(lr800_account *account, uint32_t number, const uint8_t *flags, size_t flags_length);
 
-/* Enters a frame that lr800_receive refused by 5 as a loss: it is missing, and the frames of a gap before it. Answers 0, 10 or 11; where it is refused the host
- * must stop the run. */
+/* Enters a frame that lr800_receive refused by 5 as a loss: it is missing, and the frames of a gap before it. Answers 0, 10 or 11; where it is refused the
+ * host must stop the run. */
 uint32_t lr800_account_lose(lr800_account *account, uint32_t number);
 
 /* What is said of a run. What is not set says not measured. */
 enum { LR800_NOT_MEASURED = 0, LR800_PASS = 1, LR800_FAIL = 2 };
 
-/* The verdict on the numbers of a run. Give 0 for stopped only if an order came first and alone and the account was opened with its start number; the capture was read
- * to its end; every frame of it was given to lr800_receive and entered, once and in its turn, with its own flags or, refused by 5, as a loss; and nothing was refused
- * but by 5.
+/* The verdict on the numbers of a run. Give 0 for stopped only if an order came first and alone and the account was opened with its start number; the capture
+ * was read to its end; every frame of it was given to lr800_receive and entered, once and in its turn, with its own flags or, refused by 5, as a loss; and
+ * nothing was refused but by 5.
  * Only the numbers given are judged: no limit is applied, and nothing is known of late frames.
  *   LR800_NOT_MEASURED  stopped is not 0, or asked is 0, or accepted is not asked, or missing is not 0, or the four tallies do not total 384 times accepted
  *   LR800_PASS          else, if flagged is at most allowed
  *   LR800_FAIL          else */
 uint32_t lr800_verdict(uint32_t asked, uint32_t allowed, uint64_t accepted, uint64_t missing, uint64_t clean, uint64_t one, uint64_t two, uint64_t flagged,
                        uint32_t stopped);
+
+/* The same on an account, so that no two of its numbers are exchanged. What lr800_verdict asks of the host before it gives 0 for stopped holds here too. */
+static inline uint32_t lr800_account_verdict(const lr800_account *account, uint32_t asked, uint32_t allowed, uint32_t stopped) {
+  return lr800_verdict(asked, allowed, account->accepted, account->missing, account->clean, account->one, account->two, account->flagged, stopped);
+}
 
 /* ---- Captures ---- */
 
@@ -110,12 +149,12 @@ typedef struct lr800_record {
   size_t next;      /* the next place; neither the end nor a refusal moves it */
 } lr800_record;
 
-/* What stands at a place of a capture. A place at or beyond the end is the end. A refusal is no end, though its kind is LR800_RECORD_NONE too: look at `refusal` first.
- * The place does not move then, and the host must stop the run, or step over the bytes from there on. */
+/* What stands at a place of a capture. A place at or beyond the end is the end. A refusal is no end, though its kind is LR800_RECORD_NONE too: look at
+ * `refusal` first. The place does not move then, and the host must stop the run, or step over the bytes from there on. */
 lr800_record lr800_read(const uint8_t *capture, size_t capture_length, size_t place);
 
-/* How many bytes of a record to ask for, by those of it that are there: 4, then LR800_ORDER_BYTES or LR800_FRAME_BYTES by its length, and 4 where that is not lawful.
- * A host that reads an input asks for more until it has as many as are wanted, or the input ends, and steps over what it has. */
+/* How many bytes of a record to ask for, by those of it that are there: 4, then LR800_ORDER_BYTES or LR800_FRAME_BYTES by its length, and 4 where that is
+ * not lawful. A host that reads an input asks for more until it has as many as are wanted, or the input ends, and steps over what it has. */
 size_t lr800_wanted(const uint8_t *piece, size_t piece_length);
 
 /* ---- A whole run: the host gives every byte of a capture, in turn, and says where reading failed; every other rule is kept here ---- */
@@ -134,26 +173,29 @@ typedef struct lr800_run {
 /* A run before its first record. */
 void lr800_run_open(lr800_run *run);
 
-/* One record's bytes. What follows a whole record is not looked at: it must begin the next piece, since bytes that are never given are not measured, and PASS does not
- * speak of them. No bytes are no record. The store is the run's own: lend it to every step of the run, and to nothing else; the first order clears it.
- * The first order opens the account; a frame is received and entered, or without lock entered as a loss; a refused record or entry, a second order and a frame before
- * any order stop the run, and nothing else changes. A stopped run changes no more.
- * Answers 2, and nothing is changed: the piece was not taken, give it again with a whole store; else 6 to 11, by which the record or its entry (of a frame without
- * lock: the loss) was refused, and the run is stopped; else 0. A second order and a frame before any order have no number and answer 0: whether a run is stopped is told
- * by its phase. A frame without lock answers 0 once its loss is entered, never 5: it shows in account.missing. Whatever comes to a stopped run answers 0, or 2. */
+/* One record's bytes. What follows a whole record is not looked at: it must begin the next piece, since bytes that are never given are not measured, and
+ * PASS does not speak of them. No bytes are no record. The store is the run's own: lend it to every step of the run, and to nothing else; the first order
+ * clears it.
+ * The first order opens the account; a frame is received and entered, or without lock entered as a loss; a refused record or entry, a second order and a
+ * frame before any order stop the run, and nothing else changes. A stopped run changes no more.
+ * Answers 2, and nothing is changed: the piece was not taken, give it again with a whole store; else 6 to 11, by which the record or its entry (of a frame
+ * without lock: the loss) was refused, and the run is stopped; else 0. A second order and a frame before any order have no number and answer 0: whether a
+ * run is stopped is told by its phase. A frame without lock answers 0 once its loss is entered, never 5: it shows in account.missing. Whatever comes to a
+ * stopped run answers 0, or 2. */
 uint32_t lr800_run_step(lr800_run *run, uint8_t *store, size_t store_length, const uint8_t *piece, size_t piece_length);
 
-/* Stops a run, as a host must whose input could not be read to its end: a read that fails is no end. Its figures and its account stay, and its verdict is LR800_NOT_MEASURED. */
+/* Stops a run, as a host must whose input could not be read to its end: a read that fails is no end. Its figures and its account stay, and its verdict is
+ * LR800_NOT_MEASURED. */
 void lr800_run_stop(lr800_run *run);
 
-/* The verdict of a run, once every byte was given: before that it speaks of the bytes given so far. LR800_NOT_MEASURED before an order and once stopped; else what
- * lr800_verdict says of its figures and its account. */
+/* The verdict of a run, once every byte was given: before that it speaks of the bytes given so far. LR800_NOT_MEASURED before an order and once stopped; else
+ * what lr800_verdict says of its figures and its account. */
 uint32_t lr800_run_verdict(lr800_run run);
 
 #define LR800_REPORT 213 /* room for every report */
 
-/* The report of a run, once every byte was given, as text: eight lines, each ended by one 0A, at the beginning of a buffer; no 00 is set behind it. Answers how many bytes
- * it takes. A buffer too small for it is not touched, and the answer is 0. */
+/* The report of a run, once every byte was given, as text: eight lines, each ended by one 0A, at the beginning of a buffer; no 00 is set behind it. Answers
+ * how many bytes it takes. A buffer too small for it is not touched, and the answer is 0. */
 size_t lr800_run_report(lr800_run run, uint8_t *text, size_t text_length);
 
 /* the structs are laid out as in the archive, or this does not compile */

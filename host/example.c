@@ -12,7 +12,7 @@ enum {
     LOST = 21,                               /* the frame that will not lock, or is left out */
     LANES = 32, LANE_BYTES = LR800_LANES / LANES,
     BEHIND = 180,                            /* bytes by which a lane comes back later: 36 blocks of 40 bits */
-    PILOTS_APART = 64, NO_LOCK = 25          /* a pilot is the first symbol of each 64; so many wrong ones are no lock */
+    PILOTS_APART = 64, WRONG_PILOTS = 25     /* a pilot is the first symbol of each 64; so many wrong ones are no lock */
 };
 static const uint32_t START = 4294967280u;   /* the first frame's number; the numbers run round at 2^32 within this stream */
 
@@ -44,7 +44,7 @@ static void send_stream(void) {
     static uint8_t lanes[LR800_LANES];
     for (int f = 0; f < FRAMES; f++) {
         for (int i = 0; i < LR800_LANES; i++) lanes[i] = pattern(i / LANE_BYTES, f * LANE_BYTES + i % LANE_BYTES);
-        must(lr800_send(lanes, sizeof lanes, store, sizeof store, sent[f], sizeof sent[f]) == 0, "a frame was not sent");
+        must(lr800_send(lanes, sizeof lanes, store, sizeof store, sent[f], sizeof sent[f]) == LR800_DONE, "a frame was not sent");
     }
 }
 
@@ -79,11 +79,11 @@ static void damage_frame(uint8_t *frame, uint8_t *flips, int f, int lost) {
         damage(frame, flips, 1, 5);
     }
     if (f == lost)
-        for (int n = 0; n < NO_LOCK; n++) frame[PILOTS_APART * n] ^= 0xFF;
+        for (int n = 0; n < WRONG_PILOTS; n++) frame[PILOTS_APART * n] ^= 0xFF;
 }
 
-/* Whether a frame's flags say what was done to its words, and whether all its words are whole again. Four flips and more may lie within two bits of another code
- * word: such a word comes out wrong and is not flagged, so that nothing is asked of its flag. */
+/* Whether a frame's flags say what was done to its words, and whether all its words are whole again. Four flips and more may lie within two bits of another
+ * code word: such a word comes out wrong and is not flagged, so that nothing is asked of its flag. */
 static int all_mended(const uint8_t *flips, const uint8_t *flags) {
     int mended = 1;
     for (int word = 0; word < LR800_FLAGS; word++) {
@@ -113,15 +113,22 @@ static void receive_stream(const char *what, int lost, uint32_t verdict) {
         memcpy(frame, sent[f], sizeof frame);
         damage_frame(frame, flips, f, lost);
         answer = lr800_receive(frame, sizeof frame, store, sizeof store, lanes, sizeof lanes, flags, sizeof flags);
-        must(answer == (f == lost ? 5 : 0), "a frame was received that does not lock, or refused although it does");
-        if (answer == 5) {
-            entered = lr800_account_lose(&account, number); /* else the account would not know of it */
-            since = 0;
-        } else {
+        must(answer == (f == lost ? LR800_NO_LOCK : LR800_DONE), "a frame was received that does not lock, or refused although it does");
+        switch (answer) {
+        case LR800_DONE:
             entered = lr800_account_enter(&account, number, flags, sizeof flags);
             since = all_mended(flips, flags) ? since + 1 : 0;
+            break;
+        case LR800_NO_LOCK:
+            entered = lr800_account_lose(&account, number); /* else the account would not know of it */
+            since = 0;
+            break;
+        default: entered = answer; /* a length is wrong: the frame was not measured */
         }
-        if (entered != 0) stopped = 1; /* a refused entry ends the run, and its verdict is then not measured */
+        if (entered != LR800_DONE) { /* ends the run, and its verdict is then not measured */
+            fprintf(stderr, "example: frame %" PRIu32 " refused: %s\n", number, lr800_refusal_text(entered));
+            stopped = 1;
+        }
         /* what comes back has been on its way for up to 36 blocks, so in this frame and the two before it */
         if (since < 3) continue;
         for (int i = 0; i < LR800_LANES; i++)
@@ -130,7 +137,7 @@ static void receive_stream(const char *what, int lost, uint32_t verdict) {
     }
     must(!stopped && account.expected == START + FRAMES, "an entry was refused");
     must(account.accepted + account.missing == FRAMES && account.missing == (lost < FRAMES), "the account does not know of every frame");
-    said = lr800_verdict(FRAMES, ALLOWED, account.accepted, account.missing, account.clean, account.one, account.two, account.flagged, stopped);
+    said = lr800_account_verdict(&account, FRAMES, ALLOWED, stopped);
     must(said == verdict, "another verdict");
     printf("%s\nlanes came back as sent, 36 blocks later, in %d frames\n", what, due);
     printf("accepted %" PRIu64 "\nmissing %" PRIu64 "\n", account.accepted, account.missing);
@@ -185,7 +192,7 @@ static void run_capture(const char *what, input from, uint32_t refused_by, uint3
     static uint8_t store[LR800_STORE], piece[LR800_FRAME_BYTES], text[LR800_REPORT];
     size_t have, written;
     long got;
-    uint32_t answer = 0;
+    uint32_t answer = LR800_DONE;
     lr800_run run;
     lr800_run_open(&run);
     while (run.phase < LR800_STOPPED) {
@@ -200,14 +207,14 @@ static void run_capture(const char *what, input from, uint32_t refused_by, uint3
         }
         if (have == 0) break; /* the end, between two records; an end within one is told by the step */
         answer = lr800_run_step(&run, store, sizeof store, piece, have);
-        must(answer != 2, "the store has another length"); /* any other than 0 has stopped the run */
+        must(answer != LR800_WRONG_STORE_LENGTH, lr800_refusal_text(answer)); /* any other but LR800_DONE has stopped the run */
     }
     must(answer == refused_by, "a record was refused, or was not, or by another number");
     written = lr800_run_report(run, text, sizeof text);
     must(written > 0, "there was no room for the report");
     must(lr800_run_verdict(run) == verdict, "another verdict");
     printf("\n%s\n", what);
-    if (answer != 0) printf("refused by %" PRIu32 "\n", answer);
+    if (answer != LR800_DONE) printf("refused by %" PRIu32 ": %s\n", answer, lr800_refusal_text(answer));
     must(fwrite(text, 1, written, stdout) == written, "the report was not written"); /* no 00 stands behind it */
 }
 
@@ -223,12 +230,12 @@ int main(void) {
     receive_stream("the stream, damaged on its way:", FRAMES, LR800_PASS);
     printf("\n");
     receive_stream("the same, one frame without lock:", LOST, LR800_NOT_MEASURED);
-    run_capture("the capture of all frames as sent:", whole(write_capture(FRAMES)), 0, LR800_PASS);
-    run_capture("the same without one of them:", whole(write_capture(LOST)), 0, LR800_NOT_MEASURED);
-    run_capture("all of them, the last cut short:", whole(write_capture(FRAMES) - 1), 6, LR800_NOT_MEASURED);
+    run_capture("the capture of all frames as sent:", whole(write_capture(FRAMES)), LR800_DONE, LR800_PASS);
+    run_capture("the same without one of them:", whole(write_capture(LOST)), LR800_DONE, LR800_NOT_MEASURED);
+    run_capture("all of them, the last cut short:", whole(write_capture(FRAMES) - 1), LR800_CUT_SHORT, LR800_NOT_MEASURED);
     broken = whole(write_capture(FRAMES));
     broken.fails = 1;
-    run_capture("all of them, and then a read that fails:", broken, 0, LR800_NOT_MEASURED);
+    run_capture("all of them, and then a read that fails:", broken, LR800_DONE, LR800_NOT_MEASURED);
     must(fflush(stdout) == 0, "not all of it was written");
     return 0;
 }

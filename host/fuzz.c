@@ -1,7 +1,7 @@
 /* A target for libFuzzer: what must hold of any input, asked of every function of the archive. Built and run by `host/stress fuzz`.
  *
- * An input is CONTROL bytes, from which lengths, places and stored numbers are taken, and then a capture, which also fills the buffers. The archive has no coverage
- * counters of its own: what it answers is told to libFuzzer by `mark`, and the mutator at the end knows what a record is.
+ * An input is CONTROL bytes, from which lengths, places and stored numbers are taken, and then a capture, which also fills the buffers. The archive has no
+ * coverage counters of its own: what it answers is told to libFuzzer by `mark`, and the mutator at the end knows what a record is.
  *
  * Buffers stand between two pages that cannot be touched, at the one or at the other, so that a read beyond them ends the program, too. With -DEXACT every
  * buffer is a block of its own and of its very length, for valgrind. With -DALONE the program runs over the files named, without libFuzzer. */
@@ -286,6 +286,7 @@ static uint32_t verdict_on(const lr800_run *run, uint32_t stopped) {
     const lr800_account *a = &run->account;
     uint32_t verdict = lr800_verdict(run->asked, run->allowed, a->accepted, a->missing, a->clean, a->one, a->two, a->flagged, stopped);
     mark(JUDGED, verdict);
+    MUST(lr800_account_verdict(a, run->asked, run->allowed, stopped) == verdict);
     if (verdict == LR800_NOT_MEASURED) return verdict;
     MUST(verdict == (a->flagged <= run->allowed ? LR800_PASS : LR800_FAIL));
     MUST(!stopped && run->asked && a->accepted == run->asked && !a->missing);
@@ -328,7 +329,9 @@ static void check_record(lr800_record r, size_t place) {
     if (r.kind == LR800_RECORD_NONE) {
         MUST((r.refusal == 0) == (left == 0));
         MUST(r.next == place && !r.number && !r.asked && !r.allowed && !r.symbols);
-        if (r.refusal == 6) MUST(left < 4 || (four(at) == LR800_ORDER_BYTES - 4 && left < LR800_ORDER_BYTES) || (four(at) == LR800_FRAME_BYTES - 4 && left < LR800_FRAME_BYTES));
+        if (r.refusal == 6)
+            MUST(left < 4 || (four(at) == LR800_ORDER_BYTES - 4 && left < LR800_ORDER_BYTES)
+                 || (four(at) == LR800_FRAME_BYTES - 4 && left < LR800_FRAME_BYTES));
         if (r.refusal == 7) MUST(left >= 4 && four(at) != LR800_ORDER_BYTES - 4 && four(at) != LR800_FRAME_BYTES - 4);
         if (r.refusal == 8) MUST(at[4] != 1);
         if (r.refusal == 9) MUST(at[4] == 1 && at[5] != (four(at) == LR800_FRAME_BYTES - 4));
@@ -510,7 +513,8 @@ static void check_runs(void) {
     }
     check_report(runs[0]);
     lr800_run_stop(&runs[0]);
-    MUST(runs[0].phase == LR800_STOPPED && runs[0].asked == runs[1].asked && runs[0].allowed == runs[1].allowed && same_account(&runs[0].account, &runs[1].account));
+    MUST(runs[0].phase == LR800_STOPPED && same_account(&runs[0].account, &runs[1].account));
+    MUST(runs[0].asked == runs[1].asked && runs[0].allowed == runs[1].allowed);
     check_report(runs[0]);
 }
 

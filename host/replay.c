@@ -1,7 +1,8 @@
 /* Makes the calls that standard input tells and compares every answer and every byte with what it says they must be.
- * A record begins with a byte, the function's number in the order of adderbloom.h, lr800_send being 0. Its arguments follow in their order, then the answer, then all that
- * the call may write as it must be after it: accounts, runs and buffers in the order of the arguments. Numbers have four or eight bytes, highest first, a size_t eight;
- * accounts, runs and records are their fields; a buffer is its length, four bytes, and its bytes, but after the call only its bytes.
+ * A record begins with a byte, the number of the archive's function in the order of adderbloom.h, lr800_send being 0. Its arguments follow in their order,
+ * then the answer, then all that the call may write as it must be after it: accounts, runs and buffers in the order of the arguments. Numbers have four or
+ * eight bytes, highest first, a size_t eight; accounts, runs and records are their fields; a buffer is its length, four bytes, and its bytes, but after the
+ * call only its bytes.
  * Guard bytes stand around every buffer, account and run; a buffer may begin at any address, and one of no bytes is lent as a null pointer. */
 #include "adderbloom.h"
 #include <stdio.h>

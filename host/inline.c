@@ -1,0 +1,71 @@
+/* What adderbloom.h brings by itself, tried: a text for every refusal, the verdict over an account beside lr800_verdict, the version in its two forms.
+ * Prints what is wrong, and then ends with 1. */
+#include "adderbloom.h"
+#include <inttypes.h>
+#include <stdio.h>
+#include <string.h>
+
+static int wrong;
+
+static void must(int holds, const char *what, uint32_t number) {
+    if (holds) return;
+    fprintf(stderr, "inline: %s: %" PRIu32 "\n", what, number);
+    wrong = 1;
+}
+
+/* each its own, the last for every number that is none */
+static void try_texts(void) {
+    enum { NONE = LR800_WRONG_TALLIES + 1 };
+    for (uint32_t n = 0; n <= NONE; n++) {
+        const char *text = lr800_refusal_text(n);
+        must(text[0] != '\0' && strchr(text, '\n') == NULL, "not one line of text", n);
+        for (uint32_t m = 0; m < n; m++) must(strcmp(text, lr800_refusal_text(m)) != 0, "the text of a number before it", n);
+    }
+    must(strcmp(lr800_refusal_text(NONE), lr800_refusal_text(UINT32_MAX)) == 0, "another text than that of a number that is none", UINT32_MAX);
+}
+
+/* three frames; then every number that counts is another once, and at last tallies whose total is right only round 2^64 */
+static const struct {
+    lr800_account account;
+    uint32_t asked, allowed, stopped, verdict;
+} cases[] = {
+    {{7, 3, 0, 1073, 46, 30, 3}, 3, 3, 0, LR800_PASS},
+    {{8, 3, 0, 1073, 46, 30, 3}, 3, UINT32_MAX, 0, LR800_PASS},
+    {{7, 3, 0, 1073, 46, 30, 3}, 3, 2, 0, LR800_FAIL},
+    {{7, 3, 0, 3, 46, 30, 1073}, 3, 3, 0, LR800_FAIL},
+    {{7, 3, 0, 1073, 46, 30, 3}, 3, 3, 1, LR800_NOT_MEASURED},
+    {{7, 3, 0, 1073, 46, 30, 3}, 3, 3, UINT32_MAX, LR800_NOT_MEASURED},
+    {{7, 3, 0, 1073, 46, 30, 3}, 4, 3, 0, LR800_NOT_MEASURED},
+    {{7, 2, 1, 1073, 46, 30, 3}, 3, 3, 0, LR800_NOT_MEASURED},
+    {{7, 3, 1, 1073, 46, 30, 3}, 3, 3, 0, LR800_NOT_MEASURED},
+    {{7, 0, 3, 0, 0, 0, 0}, 3, 3, 0, LR800_NOT_MEASURED},
+    {{7, 3, 0, 1072, 46, 30, 3}, 3, 3, 0, LR800_NOT_MEASURED},
+    {{7, 3, 0, 1073, 47, 30, 3}, 3, 3, 0, LR800_NOT_MEASURED},
+    {{7, 3, 0, 1073, 46, 31, 3}, 3, 3, 0, LR800_NOT_MEASURED},
+    {{7, 3, 0, 1073, 46, 30, 2}, 3, 3, 0, LR800_NOT_MEASURED},
+    {{0, 0, 0, 0, 0, 0, 0}, 0, 0, 0, LR800_NOT_MEASURED},
+    {{7, 3, 0, UINT64_MAX, 1153, 0, 0}, 3, 3, 0, LR800_NOT_MEASURED},
+};
+
+static void try_verdicts(void) {
+    for (uint32_t n = 0; n < sizeof cases / sizeof cases[0]; n++) {
+        const lr800_account *a = &cases[n].account;
+        uint32_t asked = cases[n].asked, allowed = cases[n].allowed, stopped = cases[n].stopped;
+        uint32_t said = lr800_account_verdict(a, asked, allowed, stopped);
+        must(said == lr800_verdict(asked, allowed, a->accepted, a->missing, a->clean, a->one, a->two, a->flagged, stopped), "not lr800_verdict's, case", n);
+        must(said == cases[n].verdict, "another verdict, case", n);
+    }
+}
+
+static void try_version(void) {
+    char text[40];
+    snprintf(text, sizeof text, "%d.%d.%d", LR800_VERSION_MAJOR, LR800_VERSION_MINOR, LR800_VERSION_PATCH);
+    must(strcmp(text, LR800_VERSION) == 0, "LR800_VERSION is not made of the three numbers, the first", LR800_VERSION_MAJOR);
+}
+
+int main(void) {
+    try_texts();
+    try_verdicts();
+    try_version();
+    return wrong;
+}
