@@ -78,7 +78,8 @@ flips-word e small i h =
 flips-pilot : (e k : ℕ) → k < 96 → getD (flipsOf e) (64 * k) 0 ≡ 0
 unfolding flipsOf
 flips-pilot e k h =
-    hit-at (frameOf (words e)) (frameOf (words 0)) (64 * k) (omega arith) ∙ ap₂ bitXor (frame-pilot (words e) k h) (frame-pilot (words 0) k h) ∙ xor-self (getD pilots k 0)
+    hit-at (frameOf (words e)) (frameOf (words 0)) (64 * k) (omega arith) ∙ ap₂ bitXor (frame-pilot (words e) k h) (frame-pilot (words 0) k h)
+    ∙ xor-self (getD pilots k 0)
 
 -- ---- labels by spans that begin anywhere: span, parity and lane
 
@@ -147,13 +148,16 @@ module _ (ex : Places) (s t : ℕ) (order : s < t) (four : t < 4) (parity : s % 
 
   unhit : (f : ℕ) → hitPilots (flips f) ≡ 0
   unfolding flips hitPilots
-  unhit f = count-none (λ k. not (eqb (getD (flipsOf (part f)) (64 * k) 0) 0)) 96 (λ k l. ap not (eq-eqb (getD (flipsOf (part f)) (64 * k) 0) 0 (flips-pilot (part f) k l)))
+  unhit f =
+      count-none (λ k. not (eqb (getD (flipsOf (part f)) (64 * k) 0) 0)) 96
+      (λ k l. ap not (eq-eqb (getD (flipsOf (part f)) (64 * k) 0) 0 (flips-pilot (part f) k l)))
 
   accepted : Accepted run
   accepted f h =
       run .received .call f h .number
       ∙ all-lengths (hit (run .frames f) (flips f)) (run .stores f) (zeros 5280 f) (zeros 384 f) (hit-length (run .frames f) (flips f))
-      (store-whole ex 2 (λ f. hit (run .frames f) (flips f)) (zeros 5280) (zeros 384) (run .numbers) (run .stores) (run .back) (run .flagBytes) (run .received) f (omega arith))
+      (store-whole ex 2 (λ f. hit (run .frames f) (flips f)) (zeros 5280) (zeros 384) (run .numbers) (run .stores) (run .back) (run .flagBytes)
+      (run .received) f (omega arith))
       (long 5280 f) (long 384 f)
       ∙ ap (λ (b : Bool). cond b 0 5) (hit-locks (run .frames f) (flips f) (λ k l. frame-pilots run f k h l) ∙ ap (λ (n : ℕ). ltb n lockLimit) (unhit f))
 
@@ -179,7 +183,8 @@ module _ (ex : Places) (s t : ℕ) (order : s < t) (four : t < 4) (parity : s % 
       go (yes z) (yes f) = (omega arith, omega arith)
       go (no z) d = absurd (absent p w hp heavy (word ∙ ap (λ (b : Bool). cond b (part (w / 12)) 0) (ne-eqb (32 * (w % 12) + p) 0 z)))
       go (yes z) (no f) =
-          absurd (absent p w hp heavy (word ∙ ap (λ (b : Bool). cond (eqb (32 * (w % 12) + p) 0) (cond b e 0) 0) (ne-eqb (w / 12) 0 f) ∙ either (eqb (32 * (w % 12) + p) 0)))
+          absurd (absent p w hp heavy
+          (word ∙ ap (λ (b : Bool). cond (eqb (32 * (w % 12) + p) 0) (cond b e 0) 0) (ne-eqb (w / 12) 0 f) ∙ either (eqb (32 * (w % 12) + p) 0)))
 
   -- and both symbols come back wrong, since a flagged word passes on as received
   flagged : passedOn e ≡ e
@@ -229,7 +234,8 @@ module _ (ex : Places) (s t : ℕ) (order : s < t) (four : t < 4) (parity : s % 
         (count-pos (λ k. not (eqb (streamBit (run .back) lane (10 * (u + 144) + k)) (streamBit (run .cleanBack) lane (10 * (u + 144) + k)))) 10 0 (lit< tt)
         (ap not (ne-eqb back clean (λ q. differ-one clean (sym is ∙ q)))))
 
-    counted : start lane u ≡ start lane s → (ltb (u + 144) (132 * 2) && wrongSymbol (run .back) (run .cleanBack) lane u && eqb (start lane u) (start lane s)) ≡ true
+    counted : start lane u ≡ start lane s
+        → (ltb (u + 144) (132 * 2) && wrongSymbol (run .back) (run .cleanBack) lane u && eqb (start lane u) (start lane s)) ≡ true
     counted l = both (both (lt-ltb (u + 144) (132 * 2) (omega arith)) symbol-wrong) (eq-eqb (start lane u) (start lane s) l)
 
   same-label : start lane t ≡ start lane s
@@ -245,7 +251,8 @@ module _ (ex : Places) (s t : ℕ) (order : s < t) (four : t < 4) (parity : s % 
         arith,
         lanes-one (λ p w. ltb 2 (flipsIn flips p w) && carries ex start (start lane s) p w) (12 * 2)
             (λ p w hp hw y. first-only p w hp (ltb-true 2 (flipsIn flips p w) (left (ltb 2 (flipsIn flips p w)) _ y))),
-        lanes-two (λ p u. ltb (u + 144) (132 * 2) && wrongSymbol (run .back) (run .cleanBack) p u && eqb (start p u) (start lane s)) (132 * 2) lane s t lane-lt order (omega arith)
+        lanes-two (λ p u. ltb (u + 144) (132 * 2) && wrongSymbol (run .back) (run .cleanBack) p u && eqb (start p u) (start lane s))
+            (132 * 2) lane s t lane-lt order (omega arith)
             (counted s (omega arith) refl at-s refl) (counted t four (sym side) at-t same-label),
       )
 

@@ -53,7 +53,8 @@ module _ (f e : List ℕ) where
   hit-bit k p r hk hp hr =
       let m = payloadAt (504 * k + symbolOf p r) in
       let b : bitIn p r < 8 = bitIn-lt p r hp hr in
-      bitAt-byte (hit f e) m (bitIn p r) b ∙ ap (λ (x : ℕ). bitOf 8 x (bitIn p r)) (hit-at m (payload-lt (504 * k + symbolOf p r) (omega (arith, symbol-lt p r hp hr))))
+      bitAt-byte (hit f e) m (bitIn p r) b
+      ∙ ap (λ (x : ℕ). bitOf 8 x (bitIn p r)) (hit-at m (payload-lt (504 * k + symbolOf p r) (omega (arith, symbol-lt p r hp hr))))
       ∙ bit-xor 8 (getD f m 0) (getD e m 0) (bitIn p r) ∙ sym (ap₂ differ (bitAt-byte f m (bitIn p r) b) (bitAt-byte e m (bitIn p r) b))
 
   -- a word that arrives
@@ -67,7 +68,10 @@ module _ (f e : List ℕ) where
   -- in so many bits it differs from the word sent
   pub hit-distance : (i : ℕ) → i < 384 → distance (arrived e i) 0 ≡ distance (arrived (hit f e) i) (arrived f i)
   hit-distance i h =
-      distance-weight (arrived e i) 0 ∙ ap (weight 126) (xor-zero-r (arrived e i) ∙ sym (ap (λ (w : ℕ). bitXor w (arrived f i)) (hit-word i h) ∙ xor-swap (arrived f i) (arrived e i) (arrived f i) ∙ ap (λ (w : ℕ). bitXor w (arrived e i)) (xor-self (arrived f i))))
+      distance-weight (arrived e i) 0
+      ∙ ap (weight 126) (xor-zero-r (arrived e i)
+      ∙ sym (ap (λ (w : ℕ). bitXor w (arrived f i)) (hit-word i h) ∙ xor-swap (arrived f i) (arrived e i) (arrived f i)
+      ∙ ap (λ (w : ℕ). bitXor w (arrived e i)) (xor-self (arrived f i))))
       ∙ sym (distance-weight (arrived (hit f e) i) (arrived f i))
 
 -- ---- its lock
@@ -112,7 +116,8 @@ module _ (f e : List ℕ) (code : (i : ℕ) → i < 384 → CodeWord (arrived f 
       ext-getD 0 (receivedFlags (hit f e)) (receivedFlags e) (flags-length (hit f e) ∙ sym (flags-length e))
       (λ i l.
       let h : i < 384 = subst (λ (n : ℕ). i < n) (flags-length (hit f e)) l in
-      flag-at (hit f e) i h ∙ ap (λ (w : ℕ). flagOf (mend w)) (hit-word f e i h) ∙ ap flagOf (flips-alone (arrived f i) (arrived e i) (code i h) .0) ∙ sym (flag-at e i h))
+      flag-at (hit f e) i h ∙ ap (λ (w : ℕ). flagOf (mend w)) (hit-word f e i h) ∙ ap flagOf (flips-alone (arrived f i) (arrived e i) (code i h) .0)
+      ∙ sym (flag-at e i h))
 
   -- and at most two flips in every word leave nothing in the lanes
   pub brought-two : ((i : ℕ) → i < 384 → distance (arrived e i) 0 ≤ 2) → broughtLanes (hit f e) ≡ broughtLanes f
@@ -121,11 +126,13 @@ module _ (f e : List ℕ) (code : (i : ℕ) → i < 384 → CodeWord (arrived f 
       lanes-information (mendedFrame (wordsOf (hit f e))) (mendedFrame (wordsOf f))
       (λ i h.
       ap (λ (w : ℕ). w / 2 ^ 16)
-      (passed-at (hit f e) i h ∙ passed-hit i h ∙ ap (bitXor (passedOn (arrived f i))) (two-vanish (arrived e i) (arrived-lt e i) (two i h)) ∙ xor-zero-r (passedOn (arrived f i)) ∙ sym (passed-at f i h)))
+      (passed-at (hit f e) i h ∙ passed-hit i h ∙ ap (bitXor (passedOn (arrived f i))) (two-vanish (arrived e i) (arrived-lt e i) (two i h))
+      ∙ xor-zero-r (passedOn (arrived f i)) ∙ sym (passed-at f i h)))
 
 -- over frames: the lanes brought are those brought undamaged, but for what the flips themselves bring
 pub brought-hit : (frames flips : ℕ → List ℕ) (p i : ℕ) → p < 32 → ((k : ℕ) → k < 384 → CodeWord (arrived (frames (i / 1320)) k))
-    → streamBit (λ f. broughtLanes (hit (frames f) (flips f))) p i ≡ differ (streamBit (λ f. broughtLanes (frames f)) p i) (streamBit (λ f. broughtLanes (flips f)) p i)
+    → streamBit (λ f. broughtLanes (hit (frames f) (flips f))) p i
+    ≡ differ (streamBit (λ f. broughtLanes (frames f)) p i) (streamBit (λ f. broughtLanes (flips f)) p i)
 brought-hit frames flips p i hp code =
     let f = frames (i / 1320) in
     let e = flips (i / 1320) in

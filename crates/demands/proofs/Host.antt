@@ -37,7 +37,8 @@ pub kept-back : (b : Bench) → runOf (keptRun b) ≡ b
 kept-back b = rw (phase-back (b .phase)) refl
 
 -- a call with a whole store is a step
-step-is : (r : Run) (s piece : List ℕ) (n : ℕ) (r′ : Run) (s′ : List ℕ) → Steps r s piece n r′ s′ → length s ≡ 2880 → stateOf r′ s′ ≡ stepped (stateOf r s) piece
+step-is : (r : Run) (s piece : List ℕ) (n : ℕ) (r′ : Run) (s′ : List ℕ) → Steps r s piece n r′ s′ → length s ≡ 2880
+    → stateOf r′ s′ ≡ stepped (stateOf r s) piece
 step-is r s piece n r′ s′ S l = rw (S .run, S .store, eq-eqb _ _ l, kept-back (stepped (stateOf r s) piece .run)) refl
 
 -- to step over bytes that begin with a piece is to step over the piece
@@ -63,7 +64,8 @@ module _ (s : List ℕ) (r : Run) (h : Hosted s r) where
   so-far (suc k) l =
       let before = so-far k (omega arith) in
       let inside = h .inside in
-      let next : state (suc k) ≡ stepped (state k) (getD (pieces s) k []) = step-is _ _ _ _ _ _ (h .step k l) (before .0) ∙ gives-step (state k) (h .given k) _ (h .piece k l) in (
+      let next : state (suc k) ≡ stepped (state k) (getD (pieces s) k []) = step-is _ _ _ _ _ _ (h .step k l) (before .0)
+      ∙ gives-step (state k) (h .given k) _ (h .piece k l) in (
         ap (λ (st : State). length (st .store)) next ∙ store-stays (state k) (getD (pieces s) k []) (before .0),
         next ∙ ap (λ (st : State). stepped st (getD (pieces s) k [])) (before .1) ∙ sym (on-the-way (pieces s) (state 0) k (omega arith)),
       )
@@ -100,17 +102,36 @@ by-number Fail Pass e = absurd (omega arith)
 by-number Fail Fail e = refl
 
 numbered : (b c : Bench) → b ≡ c → (v : Verdict) {X : Type 0} → (verdictOf c ≡ v) ↔ X → (verdictNumber (verdictOf b) ≡ verdictNumber v) ↔ X
-numbered b c e v means = (λ n. means .0 (by-number (verdictOf c) v (ap (λ (x : Bench). verdictNumber (verdictOf x)) (sym e) ∙ n)), λ x. ap (λ (y : Bench). verdictNumber (verdictOf y)) e ∙ ap verdictNumber (means .1 x))
+numbered b c e v means = (
+  λ n. means .0 (by-number (verdictOf c) v (ap (λ (x : Bench). verdictNumber (verdictOf x)) (sym e) ∙ n)),
+  λ x. ap
+      (λ (y : Bench). verdictNumber (verdictOf y)) e ∙ ap verdictNumber (means .1 x),
+)
 
 pub hosted-verdict : HostedVerdict
 unfolding verdictNumber
 hosted-verdict s r B h =
-    let e = comes-to s r h in
-    (numbered (runOf r) (examined s .run) e Pass (passes s B), numbered (runOf r) (examined s .run) e Fail (fails s B), numbered (runOf r) (examined s .run) e NotMeasured (unmeasured s B))
+    let e = comes-to s r h in (
+      numbered (runOf r) (examined s .run) e Pass (passes s B),
+      numbered (runOf r) (examined s .run) e Fail (fails s B),
+      numbered (runOf r)
+          (examined s .run) e NotMeasured (unmeasured s B),
+    )
 
 pub hosted-report : HostedReport
 hosted-report s r h buffer l =
-    record { run = runOf r; walk = inl (comes-to s r h); buffer = buffer; out = written (runOf r) buffer; bytes = writtenBytes (runOf r) buffer; holds = l; answered = refl; left = refl; printed = refl }
+    record {
+      run = runOf r;
+      walk = inl (comes-to s r h);
+      buffer = buffer;
+      out = written (runOf r) buffer;
+      bytes = writtenBytes
+          (runOf r) buffer;
+      holds = l;
+      answered = refl;
+      left = refl;
+      printed = refl;
+    }
 
 -- ---- they exist
 module _ (s store : List ℕ) (l : length store ≡ 2880) where
@@ -123,7 +144,8 @@ module _ (s store : List ℕ) (l : length store ≡ 2880) where
   at-whole : (k : ℕ) → k ≤ length (pieces s) → length (at k .store) ≡ 2880
   unfolding at begins through
   at-whole zero h = l
-  at-whole (suc k) h = ap (λ (st : State). length (st .store)) (on-the-way (pieces s) begins k h) ∙ store-stays (at k) (getD (pieces s) k []) (at-whole k (omega arith))
+  at-whole (suc k) h =
+      ap (λ (st : State). length (st .store)) (on-the-way (pieces s) begins k h) ∙ store-stays (at k) (getD (pieces s) k []) (at-whole k (omega arith))
 
   calls : Hosted s (keptRun (at (length (pieces s)) .run))
   unfolding at begins through

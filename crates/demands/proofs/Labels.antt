@@ -79,7 +79,8 @@ module _ (ex : Places) (even : ex 0 ≢ ex 2) (odd : ex 1 ≢ ex 3) where
         (lt-or-le s t)
 
     -- the symbols of one codeword that are carried in one word of one lane are one
-    pub one-a-word : (p q s t : ℕ) → p < 32 → q < 32 → s < 132 * n → t < 132 * n → label p s ≡ label q t → across ex p s ≡ across ex q t → slot s / 11 ≡ slot t / 11
+    pub one-a-word : (p q s t : ℕ) → p < 32 → q < 32 → s < 132 * n → t < 132 * n → label p s ≡ label q t → across ex p s ≡ across ex q t
+        → slot s / 11 ≡ slot t / 11
         → (p ≡ q) × (s ≡ t)
     unfolding across
     one-a-word p q s t hp hq hs ht c h w = go (ex (s % 4)) (ex (t % 4)) refl refl h

@@ -70,7 +70,8 @@ pub lanes-two : (f : ℕ → ℕ → Bool) (n p s t : ℕ) → p < 32 → s < t 
 unfolding countInLanes count
 lanes-two f n p s t hp hs ht ts tt′ =
     let test : ℕ → Bool = λ i. f (i % 32) (i / 32) in
-    let here : (u : ℕ) → f p u ≡ true → test (32 * u + p) ≡ true = λ u e. subst₂ (λ (q v : ℕ). f q v ≡ true) (sym (lane-of p u hp)) (sym (number-of p u hp)) e in
+    let here : (u : ℕ) → f p u ≡ true
+    → test (32 * u + p) ≡ true = λ u e. subst₂ (λ (q v : ℕ). f q v ≡ true) (sym (lane-of p u hp)) (sym (number-of p u hp)) e in
     let k = 32 * t + p in
     let split : 32 * n ≡ suc k + (32 * n - suc k) = omega arith in
     let one = count-pos test k (32 * s + p) (omega arith) (here s ts) in

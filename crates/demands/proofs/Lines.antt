@@ -47,7 +47,8 @@ unfolding linesFrom plain
 first-line begun [] rest h = ap (λ (b : List ℕ). b ∷ linesFrom [] rest) (sym (append-nil begun))
 first-line begun (c ∷ l) rest h = at (eqb c 10) h (first-line (begun ++ (c ∷ [])) l rest)
   where
-    at : (x : Bool) → (not x && plain l) ≡ true → (plain l ≡ true → linesFrom (begun ++ (c ∷ [])) (l ++ (10 ∷ rest)) ≡ ((begun ++ (c ∷ [])) ++ l) ∷ linesFrom [] rest)
+    at : (x : Bool) → (not x && plain l) ≡ true
+        → (plain l ≡ true → linesFrom (begun ++ (c ∷ [])) (l ++ (10 ∷ rest)) ≡ ((begun ++ (c ∷ [])) ++ l) ∷ linesFrom [] rest)
         → cond x (begun ∷ linesFrom [] (l ++ (10 ∷ rest))) (linesFrom (begun ++ (c ∷ [])) (l ++ (10 ∷ rest))) ≡ (begun ++ (c ∷ l)) ∷ linesFrom [] rest
     at true e IH = absurd (false≢true e)
     at false e IH = IH e ∙ ap (λ (b : List ℕ). b ∷ linesFrom [] rest) (append-assoc begun (c ∷ []) l)
@@ -57,10 +58,12 @@ figure-line : (name : List ℕ) (n : ℕ) (rest : List ℕ) → plain name ≡ t
 unfolding tabulate
 figure-line name n rest h =
     ap (linesFrom [])
-    (append-assoc name (decimal n ++ ascii "\n") rest ∙ ap (λ (l : List ℕ). name ++ l) (append-assoc (decimal n) (ascii "\n") rest) ∙ sym (append-assoc name (decimal n) (10 ∷ rest)))
+    (append-assoc name (decimal n ++ ascii "\n") rest ∙ ap (λ (l : List ℕ). name ++ l) (append-assoc (decimal n) (ascii "\n") rest)
+    ∙ sym (append-assoc name (decimal n) (10 ∷ rest)))
     ∙ first-line [] (name ++ decimal n) rest (plain-append name (decimal n) h (decimal-plain n))
 
-one-of-figures : (name : List ℕ) (n : ℕ) (more last : List ℕ) → plain name ≡ true → linesFrom [] ((line name n ++ more) ++ last) ≡ (name ++ decimal n) ∷ linesFrom [] (more ++ last)
+one-of-figures : (name : List ℕ) (n : ℕ) (more last : List ℕ) → plain name ≡ true
+    → linesFrom [] ((line name n ++ more) ++ last) ≡ (name ++ decimal n) ∷ linesFrom [] (more ++ last)
 one-of-figures name n more last h = ap (linesFrom []) (append-assoc (line name n) more last) ∙ figure-line name n (more ++ last) h
 
 -- the line of the verdict
@@ -116,7 +119,8 @@ letter Fail Pass e = absurd (omega arith)
 letter Fail Fail e = refl
 
 -- a line that says a verdict is the last one, and says the run's verdict
-pub verdict-said : (r : Run) (v : Verdict) (place : ℕ) → place < length (eight r) → getD (eight r) place [] ≡ ascii "verdict " ++ verdictName v → verdictOf r ≡ v
+pub verdict-said : (r : Run) (v : Verdict) (place : ℕ) → place < length (eight r) → getD (eight r) place [] ≡ ascii "verdict " ++ verdictName v
+    → verdictOf r ≡ v
 unfolding tabulate
 verdict-said r v zero h e = absurd (let z : _≡_ {A = ℕ} 97 118 = ap (λ (l : List ℕ). getD l 0 0) e in omega arith)
 verdict-said r v (suc zero) h e = absurd (let z : _≡_ {A = ℕ} 97 118 = ap (λ (l : List ℕ). getD l 0 0) e in omega arith)

@@ -91,16 +91,19 @@ module _ (start : ℕ) (frames : ℕ → List ℕ) where
       let n : suc k ≡ k + 1 = omega arith in
       λ i. record { expected = e i; accepted = n i; missing = 0; words = allTallies frames (suc k) }
 
-  entered-next : (k : ℕ) → k < frameLimit → record { refusal = 0; account = allAccepted (suc k) } ≡ frameEntered (allAccepted k) (frameNumber start k) (frameTallies (frames k))
+  entered-next : (k : ℕ) → k < frameLimit
+      → record { refusal = 0; account = allAccepted (suc k) } ≡ frameEntered (allAccepted k) (frameNumber start k) (frameTallies (frames k))
   entered-next k h =
-      frame-done (allAccepted k) (frameNumber start k) 0 (not-ahead k) (frameTallies (frames k)) refl false true (sym limits) refl (sym (eq-eqb (total (frameTallies (frames k))) 384 (words-due (frames k)))) (allAccepted (suc k))
+      frame-done (allAccepted k) (frameNumber start k) 0 (not-ahead k) (frameTallies (frames k)) refl false true (sym limits) refl
+      (sym (eq-eqb (total (frameTallies (frames k))) 384 (words-due (frames k)))) (allAccepted (suc k))
       (next-account k) refl
     where
       limits : over (grown (allAccepted k) (frameNumber start k) 1 0 (frameTallies (frames k))) ≡ false
       limits =
           let a = all-words frames k in
           let d = words-due (frames k) in
-          within (grown (allAccepted k) (frameNumber start k) 1 0 (frameTallies (frames k))) (omega arith) (omega arith) (omega arith) (omega arith) (omega arith) (omega arith)
+          within (grown (allAccepted k) (frameNumber start k) 1 0 (frameTallies (frames k))) (omega arith) (omega arith) (omega arith) (omega arith)
+          (omega arith) (omega arith)
 
 module _ (start asked allowed : ℕ) (frames : ℕ → List ℕ) where
   -- the run after an order and k frames in their turn
@@ -125,13 +128,15 @@ noted-lost st e s h = go (ℕ-discrete (e .refusal) 0)
     go (yes z) = rw z (inr (refl, h z))
     go (no n) = rw (ne-eqb (e .refusal) 0 n) (inl refl)
 
-frame-missing : (a : Account) (got : ℕ) (t : Tallies) → 1 ≤ a .missing + ahead got (a .expected) → frameEntered a got t .refusal ≡ 0 → 1 ≤ frameEntered a got t .account .missing
+frame-missing : (a : Account) (got : ℕ) (t : Tallies) → 1 ≤ a .missing + ahead got (a .expected) → frameEntered a got t .refusal ≡ 0
+    → 1 ≤ frameEntered a got t .account .missing
 frame-missing a got t h z = rw (frame-taken a got t z .taken) h
 
 loss-missing : (a : Account) (got : ℕ) → lossEntered a got .refusal ≡ 0 → 1 ≤ lossEntered a got .account .missing
 loss-missing a got z = rw (loss-taken a got z .taken) (omega arith)
 
-framed-lost : (st : State) (got : ℕ) (f : List ℕ) → (1 ≤ st .run .account .missing + ahead got (st .run .account .expected)) ⊎ (locks f 0 ≡ false) → Lost (framed st got f)
+framed-lost : (st : State) (got : ℕ) (f : List ℕ) → (1 ≤ st .run .account .missing + ahead got (st .run .account .expected)) ⊎ (locks f 0 ≡ false)
+    → Lost (framed st got f)
 unfolding framed entryOf
 framed-lost st got f h = go (locks f 0) refl h
   where
@@ -151,7 +156,8 @@ unfolding cameAs orderCame frameCame
 came-lost End st s g m = inr (g, m)
 came-lost (Refused refusal) st s g m = inl (refused-stops st s refusal)
 came-lost (Order start asked allowed next) st s g m = rw g (inl refl)
-came-lost (Frame number from next) st s g m = subst (λ (p : Phase). Lost (frameCame p st number (symbolsAt s from))) (sym g) (framed-lost st number (symbolsAt s from) (inl (omega arith)))
+came-lost (Frame number from next) st s g m =
+    subst (λ (p : Phase). Lost (frameCame p st number (symbolsAt s from))) (sym g) (framed-lost st number (symbolsAt s from) (inl (omega arith)))
 
 -- never finds it again
 pub walked-lost : (n : ℕ) (s : List ℕ) (i : ℕ) (st : State) → Lost st → Lost (walked n s i st)
@@ -176,7 +182,8 @@ other number m h n = at (ℕ-discrete ((number + (2 ^ 32 - m % 2 ^ 32)) % 2 ^ 32
     at (no z) = omega arith
 
 -- a refused frame stops the run
-refused-lost : (st : State) (got : ℕ) (f : List ℕ) → locks f 0 ≡ true → frameEntered (st .run .account) got (talliesOf (st .run .account) got (receivedFlags f)) .refusal ≢ 0
+refused-lost : (st : State) (got : ℕ) (f : List ℕ) → locks f 0 ≡ true
+    → frameEntered (st .run .account) got (talliesOf (st .run .account) got (receivedFlags f)) .refusal ≢ 0
     → Lost (framed st got f)
 unfolding framed entryOf
 refused-lost st got f l n = rw (l, ne-eqb _ 0 n) (inl refl)
@@ -208,7 +215,8 @@ module _ (start asked allowed : ℕ) (frames : ℕ → List ℕ) where
 abbrev Counted : State → Type 0
 Counted st = total (st .run .account .words) ≡ 384 * st .run .account .accepted
 
-noted-counted : (st : State) (e : Entry) (s : List ℕ) → Counted st → (e .refusal ≡ 0 → total (e .account .words) ≡ 384 * e .account .accepted) → Counted (noted st e s)
+noted-counted : (st : State) (e : Entry) (s : List ℕ) → Counted st → (e .refusal ≡ 0 → total (e .account .words) ≡ 384 * e .account .accepted)
+    → Counted (noted st e s)
 noted-counted st e s C h = go (ℕ-discrete (e .refusal) 0)
   where
     go : Dec (e .refusal ≡ 0) → Counted (noted st e s)
@@ -226,7 +234,9 @@ framed-counted st got f C = go (locks f 0) refl
     t = talliesOf a got (receivedFlags f)
 
     go : (l : Bool) → locks f 0 ≡ l → Counted (framed st got f)
-    go true e = rw e (noted-counted st (frameEntered a got t) (receivedStore f (st .store)) C (λ z. let T = frame-taken a got t z in rw (T .taken) (let d = T .all-due in omega arith)))
+    go true e =
+        rw e (noted-counted st (frameEntered a got t) (receivedStore f (st .store)) C
+        (λ z. let T = frame-taken a got t z in rw (T .taken) (let d = T .all-due in omega arith)))
     go false e = rw e (noted-counted st (lossEntered a got) (st .store) C (λ z. rw (loss-taken a got z .taken) (omega arith)))
 
 order-counted : (p : Phase) (st : State) (start asked allowed : ℕ) → Counted st → Counted (orderCame p st start asked allowed)

@@ -57,7 +57,8 @@ number-known (Refused refusal) Unordered st s r e = let b = subst (Stands s 0) r
 number-known (Refused refusal) Going st s r e = let b = subst (Stands s 0) r (stands s 0) in rw e (inr (b .0, (let l = b .1 in omega arith)))
 number-known (Frame number from next) Unordered st s r e = rw e (inl refl)
 number-known (Frame number from next) Stopped st s r e = rw e (inl refl)
-number-known (Frame number from next) Going st s r e = subst (λ (p : Phase). Known (frameRefusal p st number (symbolsAt s from))) (sym e) (entry-number (st .run .account) number (symbolsAt s from))
+number-known (Frame number from next) Going st s r e =
+    subst (λ (p : Phase). Known (frameRefusal p st number (symbolsAt s from))) (sym e) (entry-number (st .run .account) number (symbolsAt s from))
 
 pub step-numbers : StepNumbers
 unfolding stepRefusal

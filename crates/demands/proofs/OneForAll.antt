@@ -59,7 +59,8 @@ one-for-all ex n flips lanes room outs flagBuffers a lanes′ room′ outs′ fl
     places a b accepted accepted′ p i hp hi =
         same-place (streamBit (a .back) p i) (streamBit (a .cleanBack) p i) (streamBit (b .back) p i) (streamBit (b .cleanBack) p i)
         (deinterleaved ex (streamBit (λ f. broughtLanes (flips f))) p i) (bit (a .cleanBack) p i) (bit (b .cleanBack) p i)
-        (deinterleaved-lt ex (streamBit (λ f. broughtLanes (flips f))) (bit (λ f. broughtLanes (flips f))) p i) (differs-by a accepted p i hp hi) (differs-by b accepted′ p i hp hi)
+        (deinterleaved-lt ex (streamBit (λ f. broughtLanes (flips f))) (bit (λ f. broughtLanes (flips f))) p i) (differs-by a accepted p i hp hi)
+        (differs-by b accepted′ p i hp hi)
 
 -- ---- at most two flips in every word
 
@@ -74,13 +75,15 @@ module _ {ex : Places} {n : ℕ} {flips lanes room outs flagBuffers : ℕ → Li
   same-store (suc f) h =
       call-done ex n (λ f. hit (t .frames f) (flips f)) outs flagBuffers (t .numbers) (t .stores) (t .back) (t .flagBytes) (t .received) f h (accepted f h) .0
       ∙ ap₂ deinterleavedStore (brought f h) (same-store f (omega arith))
-      ∙ sym (call-done ex n (t .frames) outs flagBuffers (t .cleanNumbers) (t .cleanStores) (t .cleanBack) (t .cleanFlags) (t .undamaged) f h (clean-accepted t accepted f h) .0)
+      ∙ sym (call-done ex n (t .frames) outs flagBuffers (t .cleanNumbers) (t .cleanStores) (t .cleanBack) (t .cleanFlags) (t .undamaged) f h
+      (clean-accepted t accepted f h) .0)
 
   as-undamaged : (f : ℕ) → f < n → t .back f ≡ t .cleanBack f
   as-undamaged f h =
       call-done ex n (λ f. hit (t .frames f) (flips f)) outs flagBuffers (t .numbers) (t .stores) (t .back) (t .flagBytes) (t .received) f h (accepted f h) .1
       ∙ ap₂ (deinterleavedFrame ex) (brought f h) (same-store f (omega arith))
-      ∙ sym (call-done ex n (t .frames) outs flagBuffers (t .cleanNumbers) (t .cleanStores) (t .cleanBack) (t .cleanFlags) (t .undamaged) f h (clean-accepted t accepted f h) .1)
+      ∙ sym (call-done ex n (t .frames) outs flagBuffers (t .cleanNumbers) (t .cleanStores) (t .cleanBack) (t .cleanFlags) (t .undamaged) f h
+      (clean-accepted t accepted f h) .1)
 
 pub two-flips : TwoFlips
 unfolding flipsIn

@@ -1,4 +1,5 @@
--- `CarriesExactly`; and `ReedSolomonBound` with the four pairs: a wrong symbol goes to the word that carries it, which more than two flips hit, and no two of a codeword to one.
+-- `CarriesExactly`; and `ReedSolomonBound` with the four pairs: a wrong symbol goes to the word that carries it, which more than two flips hit, and no two of a
+-- codeword to one.
 -- Assumes nothing.
 use mathlib.Core.Path.{_≡_, refl, sym, ap, ap₂, _∙_, subst}
 use mathlib.Core.Logic.{_≢_, ⊎-elim}
@@ -97,7 +98,8 @@ module _ (ex : Places) (n : ℕ) (label : Labels) (c p w j : ℕ) (hp : p < 32) 
       let s = u - 72 * (u / 4 % 3) in
       let q = across ex p u in
       let symbol : (10 * s + j % 10) / 10 ≡ s = omega arith in
-      let is : suc (label q s) ≡ suc c = ap (λ (t : ℕ). suc (label q t)) (sym symbol) ∙ sym (slot-bit ex (marks label) p u (j % 10) (omega arith) l) ∙ mark e in (
+      let is : suc (label q s) ≡ suc c = ap (λ (t : ℕ). suc (label q t)) (sym symbol) ∙ sym (slot-bit ex (marks label) p u (j % 10) (omega arith) l)
+      ∙ mark e in (
         j / 10,
         q,
         s,
@@ -130,7 +132,8 @@ carries-exactly ex n label = (
     λ lanes room numbers frames stores S b hb.
         let i = 10 * s + b in
         let symbol : i / 10 ≡ s = omega arith in
-        block-rule ex n lanes room numbers frames stores S .2 (across ex q s) (slot s / 11) (10 * (slot s % 11) + b) (across-lt ex q s hq) (omega arith) (omega arith)
+        block-rule ex n lanes room numbers frames stores S .2 (across ex q s) (slot s / 11) (10 * (slot s % 11) + b) (across-lt ex q s hq) (omega arith)
+        (omega arith)
         ∙ ap₂ (interleaved ex (streamBit lanes)) (ap (across ex q) (sym symbol)) (sym (placed s b hb)) ∙ carried ex (streamBit lanes) q i hq,
   ),
 )
@@ -144,7 +147,8 @@ left-nothing flips q w k hq hk two =
     let frame : i / 1320 ≡ w / 12 = omega arith in
     let word : 32 * (i % 1320 / 110) + q ≡ 32 * (w % 12) + q = omega arith in
     brought-bit flips q i hq ∙ ap₂ (λ (f j : ℕ). bitOf 126 (passedOn (arrived (flips f) j)) (i % 110)) frame word
-    ∙ ap (λ (v : ℕ). bitOf 126 v (i % 110)) (two-vanish e (arrived-lt (flips (w / 12)) (32 * (w % 12) + q)) two) ∙ ap (λ (v : ℕ). v % 2) (zero-div (2 ^ (126 - 1 - i % 110)))
+    ∙ ap (λ (v : ℕ). bitOf 126 v (i % 110)) (two-vanish e (arrived-lt (flips (w / 12)) (32 * (w % 12) + q)) two)
+    ∙ ap (λ (v : ℕ). v % 2) (zero-div (2 ^ (126 - 1 - i % 110)))
 
 pub differ-none : (x : ℕ) → differ x 0 ≡ x
 differ-none zero = refl
@@ -162,16 +166,19 @@ module _ {ex : Places} {n : ℕ} {flips lanes room outs flagBuffers : ℕ → Li
       let none : deinterleaved ex left p (10 * (s + 144) + k) ≡ 0 =
       ap (deinterleaved ex left p) late ∙ fetched ex left p i ∙ ap₂ left (ap (across ex p) symbol) (placed s k hk)
       ∙ left-nothing flips (across ex p s) (slot s / 11) (10 * (slot s % 11) + k) (across-lt ex p s hp) (omega arith) two in
-      differs-by t accepted p (10 * (s + 144) + k) hp (omega arith) ∙ ap (differ (streamBit (t .cleanBack) p (10 * (s + 144) + k))) none ∙ differ-none (streamBit (t .cleanBack) p (10 * (s + 144) + k))
+      differs-by t accepted p (10 * (s + 144) + k) hp (omega arith) ∙ ap (differ (streamBit (t .cleanBack) p (10 * (s + 144) + k))) none
+      ∙ differ-none (streamBit (t .cleanBack) p (10 * (s + 144) + k))
 
   -- so a wrong one was carried in a word that more than two hit
   wrong-heavy : (p s : ℕ) → p < 32 → s + 144 < 132 * n → wrongSymbol (t .back) (t .cleanBack) p s ≡ true → 2 < flipsIn flips (across ex p s) (slot s / 11)
   unfolding wrongSymbol
   wrong-heavy p s hp hs wrong =
-      let r = count-some (λ k. not (eqb (streamBit (t .back) p (10 * (s + 144) + k)) (streamBit (t .cleanBack) p (10 * (s + 144) + k)))) 10 (ltb-true 0 _ wrong) in
+      let r = count-some (λ k. not (eqb (streamBit (t .back) p (10 * (s + 144) + k)) (streamBit (t .cleanBack) p (10 * (s + 144) + k)))) 10
+      (ltb-true 0 _ wrong) in
       ⊎-elim (λ (h : 2 < flipsIn flips (across ex p s) (slot s / 11)). h)
       (λ (h : flipsIn flips (across ex p s) (slot s / 11) ≤ 2).
-      absurd (eqb-false (streamBit (t .back) p (10 * (s + 144) + r .0)) (streamBit (t .cleanBack) p (10 * (s + 144) + r .0)) (not-true _ (r .2)) (right-bit p s (r .0) hp hs (r .1) h)))
+      absurd (eqb-false (streamBit (t .back) p (10 * (s + 144) + r .0)) (streamBit (t .cleanBack) p (10 * (s + 144) + r .0)) (not-true _ (r .2))
+      (right-bit p s (r .0) hp hs (r .1) h)))
       (lt-or-le 2 (flipsIn flips (across ex p s) (slot s / 11)))
 
   -- the tests that are counted
@@ -209,7 +216,8 @@ reed-solomon-bound ex even odd n flips lanes room outs flagBuffers t accepted la
 -- ---- the four pairs
 
 bounded : (ex : Places) → ex 0 ≢ ex 2 → ex 1 ≢ ex 3 → Bounded ex
-bounded ex even odd n flips lanes room outs flagBuffers t accepted before label S = reed-solomon-bound ex even odd n flips lanes room outs flagBuffers t accepted label (spans-label n before label S)
+bounded ex even odd n flips lanes room outs flagBuffers t accepted before label S =
+    reed-solomon-bound ex even odd n flips lanes room outs flagBuffers t accepted label (spans-label n before label S)
 
 yes-no : true ≢ false
 yes-no e = false≢true (sym e)

@@ -31,7 +31,8 @@ use Rattle.demands.proofs.Hit.{code-passed}
 
 -- ---- a run of sending, received as it was sent
 
-module _ (ex : Places) (n : ℕ) (lanes room : ℕ → List ℕ) (sentNumbers : ℕ → ℕ) (frames sentStores : ℕ → List ℕ) (S : Sent ex n lanes room sentNumbers frames sentStores) where
+module _ (ex : Places) (n : ℕ) (lanes room : ℕ → List ℕ) (sentNumbers : ℕ → ℕ) (frames sentStores : ℕ → List ℕ)
+    (S : Sent ex n lanes room sentNumbers frames sentStores) where
   pub sent-done : (f : ℕ) → f < n → sentNumbers f ≡ 0
   sent-done = block-rule ex n lanes room sentNumbers frames sentStores S .0
 
@@ -53,11 +54,14 @@ module _ (ex : Places) (n : ℕ) (lanes room : ℕ → List ℕ) (sentNumbers : 
       let word : 32 * (i % 1320 / 110) + p ≡ 32 * (w % 12) + p = omega arith in
       let bit : 110 * w + i % 110 ≡ i = omega arith in
       brought-bit frames p i hp
-      ∙ ap (λ (v : ℕ). bitOf 126 v (i % 110)) (code-passed c (sent-words (i / 1320) (omega arith) (32 * (i % 1320 / 110) + p) (omega arith)) (arrived-lt (frames (i / 1320)) (32 * (i % 1320 / 110) + p)))
+      ∙ ap (λ (v : ℕ). bitOf 126 v (i % 110))
+      (code-passed c (sent-words (i / 1320) (omega arith) (32 * (i % 1320 / 110) + p) (omega arith))
+      (arrived-lt (frames (i / 1320)) (32 * (i % 1320 / 110) + p)))
       ∙ ap₂ (λ (f k : ℕ). bitOf 126 (arrived (frames f) k) (i % 110)) frame word
       ∙ block-rule ex n lanes room sentNumbers frames sentStores S .2 p w (i % 110) hp (omega arith) (omega arith) ∙ ap (interleaved ex (streamBit lanes) p) bit
 
-  module _ (outs flagBuffers : ℕ → List ℕ) (numbers : ℕ → ℕ) (stores back flagBytes : ℕ → List ℕ) (R : Received ex n frames outs flagBuffers numbers stores back flagBytes) where
+  module _ (outs flagBuffers : ℕ → List ℕ) (numbers : ℕ → ℕ) (stores back flagBytes : ℕ → List ℕ)
+      (R : Received ex n frames outs flagBuffers numbers stores back flagBytes) where
     -- with room for the lanes and the flags a call is not refused
     pub clean-done : (f : ℕ) → f < n → length (outs f) ≡ 5280 → length (flagBuffers f) ≡ 384 → numbers f ≡ 0
     clean-done f h o g =
@@ -71,10 +75,12 @@ module _ (ex : Places) (n : ℕ) (lanes room : ℕ → List ℕ) (sentNumbers : 
       pub clean-back : (p i : ℕ) → p < 32 → i < 1320 * n → streamBit back p i ≡ deinterleaved ex (interleaved ex (streamBit lanes)) p i
       clean-back p i hp hi =
           back-stream ex n frames outs flagBuffers numbers stores back flagBytes R accepted p i hp hi
-          ∙ deinterleaved-cong ex (streamBit (λ f. broughtLanes (frames f))) (interleaved ex (streamBit lanes)) p i hp (λ q j hq hj. brought-sent q j hq (omega arith))
+          ∙ deinterleaved-cong ex (streamBit (λ f. broughtLanes (frames f))) (interleaved ex (streamBit lanes)) p i hp
+          (λ q j hq hj. brought-sent q j hq (omega arith))
 
       clean-length : (f : ℕ) → f < n → length (back f) ≡ 5280
-      clean-length f h = ap length (call-done ex n frames outs flagBuffers numbers stores back flagBytes R f h (accepted f h) .1) ∙ lanes-length ex (frames f) (stores f)
+      clean-length f h =
+          ap length (call-done ex n frames outs flagBuffers numbers stores back flagBytes R f h (accepted f h) .1) ∙ lanes-length ex (frames f) (stores f)
 
       clean-flags : (f : ℕ) → f < n → flagBytes f ≡ replicate 384 0
       clean-flags f h =
@@ -90,18 +96,24 @@ pub return : Return
 return ex n lanes sentNumbers numbers back flagBytes U = (
   λ f h. (sent-done ex n lanes (U .room) sentNumbers (U .frames) (U .sentStores) (U .sent) f h, accepted f h),
   λ f h. (
-    clean-length ex n lanes (U .room) sentNumbers (U .frames) (U .sentStores) (U .sent) (U .outs) (U .flagBuffers) numbers (U .stores) back flagBytes (U .received) accepted f h,
-    clean-flags ex n lanes (U .room) sentNumbers (U .frames) (U .sentStores) (U .sent) (U .outs) (U .flagBuffers) numbers (U .stores) back flagBytes (U .received) accepted f h,
+    clean-length ex n lanes (U .room) sentNumbers (U .frames) (U .sentStores) (U .sent) (U .outs) (U .flagBuffers) numbers (U .stores) back flagBytes
+        (U .received) accepted f h,
+    clean-flags ex n lanes (U .room) sentNumbers (U .frames) (U .sentStores) (U .sent) (U .outs) (U .flagBuffers) numbers (U .stores) back flagBytes
+        (U .received) accepted f h,
   ),
   λ p i hp early hi. came p i hp hi ∙ back-early ex (streamBit lanes) p i early,
   λ p i hp hi. came p (i + 1440) hp hi ∙ back-late ex (streamBit lanes) p i hp,
 )
   where
     accepted : (f : ℕ) → f < n → numbers f ≡ 0
-    accepted f h = clean-done ex n lanes (U .room) sentNumbers (U .frames) (U .sentStores) (U .sent) (U .outs) (U .flagBuffers) numbers (U .stores) back flagBytes (U .received) f h (U .lent f h .0) (U .lent f h .1)
+    accepted f h =
+        clean-done ex n lanes (U .room) sentNumbers (U .frames) (U .sentStores) (U .sent) (U .outs) (U .flagBuffers) numbers (U .stores) back flagBytes
+        (U .received) f h (U .lent f h .0) (U .lent f h .1)
 
     came : (p i : ℕ) → p < 32 → i < 1320 * n → streamBit back p i ≡ deinterleaved ex (interleaved ex (streamBit lanes)) p i
-    came = clean-back ex n lanes (U .room) sentNumbers (U .frames) (U .sentStores) (U .sent) (U .outs) (U .flagBuffers) numbers (U .stores) back flagBytes (U .received) accepted
+    came =
+        clean-back ex n lanes (U .room) sentNumbers (U .frames) (U .sentStores) (U .sent) (U .outs) (U .flagBuffers) numbers (U .stores) back flagBytes
+        (U .received) accepted
 
 -- one frame: every byte has eight bits of the first 36 blocks
 pub one-frame : OneFrame
@@ -113,7 +125,9 @@ one-frame ex lanes sentNumbers numbers back flagBytes U =
     sym (byte-field (back 0) bytes m) ∙ field-is (back 0) (8 * m) 8 (λ _. 0) (λ q c. zeros (8 * m + q) (omega arith)) ∙ sym (getD-replicate 5280 m 0 0 h))
   where
     is : back 0 ≡ receivedLanes ex (U .frames 0) (U .stores 0)
-    is = call-done ex 1 (U .frames) (U .outs) (U .flagBuffers) numbers (U .stores) back flagBytes (U .received) 0 (omega arith) (return ex 1 lanes sentNumbers numbers back flagBytes U .0 0 (omega arith) .1) .1
+    is =
+        call-done ex 1 (U .frames) (U .outs) (U .flagBuffers) numbers (U .stores) back flagBytes (U .received) 0 (omega arith)
+        (return ex 1 lanes sentNumbers numbers back flagBytes U .0 0 (omega arith) .1) .1
 
     whole : length (back 0) ≡ 5280
     whole = return ex 1 lanes sentNumbers numbers back flagBytes U .1 0 (omega arith) .0

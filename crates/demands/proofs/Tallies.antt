@@ -28,11 +28,13 @@ module _ (start : Account) (got numbers numbers′ : ℕ → ℕ) (flagBytes fla
   same-account zero h = refl
   same-account (suc f) h =
       ap (λ (e : Entry). e .account)
-      (same-entry (accountAt start got numbers flagBytes f) (accountAt start got numbers′ flagBytes′ f) (got f) (numbers f) (numbers′ f) (flagBytes f) (flagBytes′ f)
+      (same-entry (accountAt start got numbers flagBytes f) (accountAt start got numbers′ flagBytes′ f) (got f) (numbers f) (numbers′ f) (flagBytes f)
+      (flagBytes′ f)
       (same-account f (omega arith)) (same f h) (flags f h))
 
 pub tallies-alike : TalliesAlike
 tallies-alike ex n flips lanes room outs flagBuffers a lanes′ room′ outs′ flagBuffers′ b lengths start got f h =
     let alike = one-for-all ex n flips lanes room outs flagBuffers a lanes′ room′ outs′ flagBuffers′ b lengths in
-    same-entry (accountAt start got (a .numbers) (a .flagBytes) f) (accountAt start got (b .numbers) (b .flagBytes) f) (got f) (a .numbers f) (b .numbers f) (a .flagBytes f) (b .flagBytes f)
+    same-entry (accountAt start got (a .numbers) (a .flagBytes) f) (accountAt start got (b .numbers) (b .flagBytes) f) (got f) (a .numbers f) (b .numbers f)
+    (a .flagBytes f) (b .flagBytes f)
     (same-account start got (a .numbers) (b .numbers) (a .flagBytes) (b .flagBytes) n (alike .0) (alike .1) f (omega arith)) (alike .0 f h) (alike .1 f h)

@@ -6,7 +6,8 @@ use Rattle.demands.proofs.Trial.{refused-exactly, flips-counted, trials
 use Rattle.demands.proofs.OneForAll.{one-for-all, two-flips}
 use Rattle.demands.proofs.Tallies.{tallies-alike}
 use Rattle.demands.proofs.Numbers.{step-numbers}
-use Rattle.demands.proofs.Verdict.{pass-exactly, fail-exactly, not-measured-exactly, program-says, measured-once, examinations-exist, arrived-always, never-pass, all-counted, always-counted}
+use Rattle.demands.proofs.Verdict.{pass-exactly, fail-exactly, not-measured-exactly, program-says, measured-once, examinations-exist, arrived-always}
+use Rattle.demands.proofs.Verdict.{never-pass, all-counted, always-counted}
 use Rattle.demands.proofs.Labels.{spans-label}
 use Rattle.demands.proofs.ReedSolomon.{carries-exactly, reed-solomon-bound, four-pairs}
 use Rattle.demands.proofs.Exceeded.{spans-exist, other-places, other-pairs}

@@ -34,7 +34,8 @@ module _ {ex : Places} {n : ℕ} {flips lanes room outs flagBuffers : ℕ → Li
 
   pub frame-pilots : (f k : ℕ) → f < n → k < 96 → getD (t .frames f) (64 * k) 0 ≡ getD pilots k 0
   frame-pilots f k h l =
-      ap (λ (x : List ℕ). getD x (64 * k) 0) (frame-sent ex n lanes room (t .sentNumbers) (t .frames) (t .sentStores) (t .sent) f h) ∙ sent-pilot ex (lanes f) (t .sentStores f) k l
+      ap (λ (x : List ℕ). getD x (64 * k) 0) (frame-sent ex n lanes room (t .sentNumbers) (t .frames) (t .sentStores) (t .sent) f h)
+      ∙ sent-pilot ex (lanes f) (t .sentStores f) k l
 
   -- the flags of a frame that was not refused are those of the flips
   pub flags-of-flips : (f : ℕ) → f < n → t .numbers f ≡ 0 → t .flagBytes f ≡ receivedFlags (flips f)
@@ -47,7 +48,8 @@ module _ {ex : Places} {n : ℕ} {flips lanes room outs flagBuffers : ℕ → Li
     pub clean-accepted : (f : ℕ) → f < n → t .cleanNumbers f ≡ 0
     clean-accepted f h =
         let room = lent (hit (t .frames f) (flips f)) (t .stores f) (outs f) (flagBuffers f) (sym (t .received .call f h .number) ∙ accepted f h) in
-        clean-done ex n lanes _ (t .sentNumbers) (t .frames) (t .sentStores) (t .sent) outs flagBuffers (t .cleanNumbers) (t .cleanStores) (t .cleanBack) (t .cleanFlags) (t .undamaged) f h
+        clean-done ex n lanes _ (t .sentNumbers) (t .frames) (t .sentStores) (t .sent) outs flagBuffers (t .cleanNumbers) (t .cleanStores) (t .cleanBack)
+        (t .cleanFlags) (t .undamaged) f h
         (room .0) (room .1)
 
     -- what is left of the flips, as lanes: what they would bring if they were frames
@@ -61,7 +63,8 @@ module _ {ex : Places} {n : ℕ} {flips lanes room outs flagBuffers : ℕ → Li
         (λ q j hq hj. brought-hit (t .frames) flips q j hq (code-words (j / 1320) (omega arith)))
         ∙ deinterleaved-zip ex differ refl clean left p i
         ∙ ap (λ (b : ℕ). differ b (deinterleaved ex left p i))
-        (sym (back-stream ex n (t .frames) outs flagBuffers (t .cleanNumbers) (t .cleanStores) (t .cleanBack) (t .cleanFlags) (t .undamaged) clean-accepted p i hp hi))
+        (sym (back-stream ex n (t .frames) outs flagBuffers (t .cleanNumbers) (t .cleanStores) (t .cleanBack) (t .cleanFlags)
+        (t .undamaged) clean-accepted p i hp hi))
 
 pub refused-exactly : RefusedExactly
 refused-exactly ex n flips lanes room outs flagBuffers t f h =
@@ -84,7 +87,8 @@ module _ (ex : Places) (n : ℕ) (flips lanes room outs flagBuffers : ℕ → Li
   sentFrames : ℕ → List ℕ
   sentFrames f = after (sendNumber (lanes f) (senderStores f) (room f)) (sentFrame ex (lanes f) (senderStores f)) (room f)
 
-  sends : ((f : ℕ) → f < n → (length (lanes f) ≡ 5280) × (length (room f) ≡ 6144)) → Sent ex n lanes room (λ f. sendNumber (lanes f) (senderStores f) (room f)) sentFrames senderStores
+  sends : ((f : ℕ) → f < n → (length (lanes f) ≡ 5280) × (length (room f) ≡ 6144))
+      → Sent ex n lanes room (λ f. sendNumber (lanes f) (senderStores f) (room f)) sentFrames senderStores
   unfolding senderStores sentFrames
   sends whole = record { whole = whole; fresh = refl; call = λ f h. record { number = refl; store = refl; output = refl } }
 
@@ -142,4 +146,6 @@ undamaged-exist ex n lanes whole = (
 )
   where
     t : Trial ex n (λ _. replicate 6144 0) lanes (λ _. replicate 6144 0) (λ _. replicate 5280 0) (λ _. replicate 384 0)
-    t = trials-exist ex n (λ _. replicate 6144 0) lanes (λ _. replicate 6144 0) (λ _. replicate 5280 0) (λ _. replicate 384 0) (λ f h. (whole f h, length-replicate {A = ℕ} 6144 0))
+    t =
+        trials-exist ex n (λ _. replicate 6144 0) lanes (λ _. replicate 6144 0) (λ _. replicate 5280 0) (λ _. replicate 384 0)
+        (λ f h. (whole f h, length-replicate {A = ℕ} 6144 0))

@@ -30,7 +30,8 @@ use Rattle.bench.specs.definitions.Walk.{examined, pieces, through}
 use Rattle.report.specs.definitions.Report.{ascii, verdictName, text, writtenBytes, written}
 use Rattle.bench.proofs.Walk.{pieces-alike, none-left}
 use Rattle.demands.specs.definitions.Verdict.{Measured, measuredRun, flaggedWords, Stepwise, Examination, Line, Arrived}
-use Rattle.demands.specs.statements.Verdict.{PassExactly, FailExactly, NotMeasuredExactly, ProgramSays, MeasuredOnce, ExaminationsExist, ArrivedAlways, NeverPass, AllCounted, AlwaysCounted}
+use Rattle.demands.specs.statements.Verdict.{PassExactly, FailExactly, NotMeasuredExactly, ProgramSays, MeasuredOnce, ExaminationsExist, ArrivedAlways}
+use Rattle.demands.specs.statements.Verdict.{NeverPass, AllCounted, AlwaysCounted}
 use Rattle.demands.proofs.Measured.{all-words, walked-counted}
 use Rattle.demands.proofs.Walked.{framePlace, framesIn, found, whole-symbols, ends-inside, record-there, up-to, measured-run, measured-back}
 use Rattle.demands.proofs.Lines.{text-lines, verdict-said}
@@ -57,7 +58,10 @@ module _ (s : List ℕ) (m : Measured s) where
 
   given : verdictOf (examined s .run) ≡ cond (leb (flaggedWords m) (m .allowed)) Pass Fail
   unfolding verdictOf verdict goesOn
-  given = ap verdictOf (measured-run s m) ∙ ap (λ (b : Bool). cond b (cond (leb (flaggedWords m) (m .allowed)) Pass Fail) NotMeasured) (sym (measured-by (m .asked) (measuredRun m .account) numbers))
+  given =
+      ap verdictOf (measured-run s m)
+      ∙ ap (λ (b : Bool). cond b (cond (leb (flaggedWords m) (m .allowed)) Pass Fail) NotMeasured)
+      (sym (measured-by (m .asked) (measuredRun m .account) numbers))
 
 -- so each verdict is given exactly where it is due
 pub passes : (s : List ℕ) → AllBytes s → (verdictOf (examined s .run) ≡ Pass) ↔ ((m : Measured s) × (flaggedWords m ≤ m .allowed))
@@ -92,7 +96,8 @@ unmeasured s B = (λ e m. one-or-other (leb (flaggedWords m) (m .allowed)) (sym 
 -- ---- record by record
 
 -- states that follow one another by steps come to what stepping through comes to
-stepwise : (ps : List (List ℕ)) (states : ℕ → State) → ((k : ℕ) → k < length ps → states (suc k) ≡ stepped (states k) (getD ps k [])) → through (states 0) ps ≡ states (length ps)
+stepwise : (ps : List (List ℕ)) (states : ℕ → State) → ((k : ℕ) → k < length ps → states (suc k) ≡ stepped (states k) (getD ps k []))
+    → through (states 0) ps ≡ states (length ps)
 unfolding through
 stepwise [] states call = refl
 stepwise (p ∷ ps) states call =
@@ -134,7 +139,9 @@ module _ (r : Run) (line : String) (v : Verdict) (says : ascii line ≡ ascii "v
 
 run-is : (s : List ℕ) (r : Run) → (r ≡ examined s .run) ⊎ Stepwise s r → r ≡ examined s .run
 run-is s r (inl e) = e
-run-is s r (inr S) = S .last ∙ ap (λ (st : State). st .run) (sym (stepwise (pieces s) (S .states) (S .call)) ∙ ap (λ (st : State). through st (pieces s)) (S .first) ∙ pieces-alike s)
+run-is s r (inr S) =
+    S .last ∙ ap (λ (st : State). st .run)
+    (sym (stepwise (pieces s) (S .states) (S .call)) ∙ ap (λ (st : State). through st (pieces s)) (S .first) ∙ pieces-alike s)
 
 module _ (s report : List ℕ) (R : Examination s report) where
   report-is : report ≡ text (examined s .run)
@@ -145,7 +152,8 @@ module _ (s report : List ℕ) (R : Examination s report) where
       ∙ whole (leb (length (text (R .run))) (length (R .buffer))) (le-leb (length (text (R .run))) (length (R .buffer)) (R .holds))
       ∙ ap text (run-is s (R .run) (R .walk))
     where
-      whole : (b : Bool) → b ≡ true → take (cond b (length (text (R .run))) 0) (cond b (text (R .run) ++ drop (length (text (R .run))) (R .buffer)) (R .buffer)) ≡ text (R .run)
+      whole : (b : Bool) → b ≡ true
+          → take (cond b (length (text (R .run))) 0) (cond b (text (R .run) ++ drop (length (text (R .run))) (R .buffer)) (R .buffer)) ≡ text (R .run)
       whole true e = take-append-seam (text (R .run)) (drop (length (text (R .run))) (R .buffer))
       whole false e = absurd (false≢true e)
 
@@ -185,7 +193,18 @@ stopped-says r = line-stands (stopped r) "verdict NOT MEASURED" NotMeasured refl
 examination : (s buffer : List ℕ) → length (text (examined s .run)) ≤ length buffer
     → Examination s (take (writtenBytes (examined s .run) buffer) (written (examined s .run) buffer))
 examination s buffer h =
-    record { run = examined s .run; walk = inl refl; buffer = buffer; out = written (examined s .run) buffer; bytes = writtenBytes (examined s .run) buffer; holds = h; answered = refl; left = refl; printed = refl }
+    record {
+      run = examined s .run;
+      walk = inl refl;
+      buffer = buffer;
+      out = written (examined s .run) buffer;
+      bytes = writtenBytes
+          (examined s .run) buffer;
+      holds = h;
+      answered = refl;
+      left = refl;
+      printed = refl;
+    }
 
 pub program-says : ProgramSays
 unfolding verdictName tabulate
@@ -196,7 +215,8 @@ program-says s =
 
 pub examinations-exist : ExaminationsExist
 unfolding examination
-examinations-exist s = (steps-exist s, λ buffer h. (take (writtenBytes (examined s .run) buffer) (written (examined s .run) buffer), examination s buffer h, refl))
+examinations-exist s =
+    (steps-exist s, λ buffer h. (take (writtenBytes (examined s .run) buffer) (written (examined s .run) buffer), examination s buffer h, refl))
 
 pub all-counted : AllCounted
 all-counted s report B E L =
@@ -238,13 +258,19 @@ module _ (s : List ℕ) (a : Arrived s) where
   order-there : numbersRead (readAt s 0) ≡ (a .start, a .asked, a .allowed)
   order-there =
       ap (λ (x : List ℕ). numbersRead (readAt x 0)) (a .capture)
-      ∙ ap numbersRead (records .orderReads (a .start) (a .asked) (a .allowed) (frameRecords (a .numbers) (a .frames) (a .n) ++ a .rest) (a .small .0) (a .small .1) (a .small .2))
+      ∙ ap numbersRead (records .orderReads (a .start) (a .asked) (a .allowed) (frameRecords (a .numbers) (a .frames) (a .n) ++ a .rest) (a .small .0)
+      (a .small .1) (a .small .2))
 
   frame-there : (k : ℕ) → k < a .n
-      → (readAt s (framePlace k) ≡ Frame (a .numbers k) (framePlace k + layout .symbolsFrom) (framePlace k + layout .frameBytes)) × (symbolsAt s (framePlace k + layout .symbolsFrom) ≡ a .frames k)
+      → (readAt s (framePlace k) ≡ Frame (a .numbers k) (framePlace k + layout .symbolsFrom) (framePlace k + layout .frameBytes))
+      × (symbolsAt s (framePlace k + layout .symbolsFrom) ≡ a .frames k)
   frame-there k h =
-      let R = records .framesRead (a .n) (a .numbers) (a .frames) (orderRecord (a .start) (a .asked) (a .allowed)) (a .rest) (a .whole) k (framePlace k) h (let o = records .recordLengths .0 (a .start) (a .asked) (a .allowed) in omega arith) in
-      (ap (λ (x : List ℕ). readAt x (framePlace k)) (a .capture) ∙ R .0, ap (λ (x : List ℕ). symbolsAt x (framePlace k + layout .symbolsFrom)) (a .capture) ∙ R .1)
+      let R = records .framesRead (a .n) (a .numbers) (a .frames) (orderRecord (a .start) (a .asked) (a .allowed)) (a .rest) (a .whole) k (framePlace k) h
+      (let o = records .recordLengths .0 (a .start) (a .asked) (a .allowed) in omega arith) in (
+        ap (λ (x : List ℕ). readAt x (framePlace k)) (a .capture) ∙ R .0,
+        ap (λ (x : List ℕ). symbolsAt x (framePlace k + layout .symbolsFrom)) (a .capture)
+            ∙ R .1,
+      )
 
   frames-long : length (frameRecords (a .numbers) (a .frames) (a .n)) ≡ a .n * layout .frameBytes
   frames-long = records .recordLengths .2 (a .n) (a .numbers) (a .frames) (λ k l. a .whole k l .1)
@@ -254,7 +280,9 @@ module _ (s : List ℕ) (a : Arrived s) where
       ap length (a .capture) ∙ length-append (orderRecord (a .start) (a .asked) (a .allowed)) (frameRecords (a .numbers) (a .frames) (a .n) ++ a .rest)
       ∙ (let o = records .recordLengths .0 (a .start) (a .asked) (a .allowed) in
       let f = frames-long in
-      let both : length (frameRecords (a .numbers) (a .frames) (a .n) ++ a .rest) ≡ length (frameRecords (a .numbers) (a .frames) (a .n)) + length (a .rest) = length-append (frameRecords (a .numbers) (a .frames) (a .n)) (a .rest) in omega arith)
+      let both : length (frameRecords (a .numbers) (a .frames) (a .n) ++ a .rest)
+      ≡ length (frameRecords (a .numbers) (a .frames) (a .n)) + length (a .rest) =
+      length-append (frameRecords (a .numbers) (a .frames) (a .n)) (a .rest) in omega arith)
 
   -- behind the frames stands none
   rest-there : isFrame (readAt s (framePlace (a .n))) ≡ false
@@ -264,9 +292,11 @@ module _ (s : List ℕ) (a : Arrived s) where
     where
       behind : drop (framePlace (a .n)) s ≡ a .rest
       behind =
-          ap (drop (framePlace (a .n))) (a .capture ∙ sym (append-assoc (orderRecord (a .start) (a .asked) (a .allowed)) (frameRecords (a .numbers) (a .frames) (a .n)) (a .rest)))
+          ap (drop (framePlace (a .n)))
+          (a .capture ∙ sym (append-assoc (orderRecord (a .start) (a .asked) (a .allowed)) (frameRecords (a .numbers) (a .frames) (a .n)) (a .rest)))
           ∙ drop-at (orderRecord (a .start) (a .asked) (a .allowed) ++ frameRecords (a .numbers) (a .frames) (a .n)) (a .rest) (framePlace (a .n))
-          (length-append (orderRecord (a .start) (a .asked) (a .allowed)) (frameRecords (a .numbers) (a .frames) (a .n)) ∙ (let o = records .recordLengths .0 (a .start) (a .asked) (a .allowed) in let f = frames-long in omega arith))
+          (length-append (orderRecord (a .start) (a .asked) (a .allowed)) (frameRecords (a .numbers) (a .frames) (a .n))
+          ∙ (let o = records .recordLengths .0 (a .start) (a .asked) (a .allowed) in let f = frames-long in omega arith))
 
 -- one capture comes in one way
 not-fewer : (s : List ℕ) (a b : Arrived s) → a .n < b .n → ⊥
@@ -301,7 +331,9 @@ of-measured s m =
       small = m .numbers;
       whole = λ k h. (omega arith, m .whole k h);
       noFrame = λ number from next e. false≢true (ap isFrame (at-end [] 0 (omega arith) ∙ e));
-      capture = m .capture ∙ ap (λ (l : List ℕ). orderRecord (m .start) (m .asked) (m .allowed) ++ l) (sym (append-nil (frameRecords (frameNumber (m .start)) (m .frames) (m .asked))));
+      capture =
+          m .capture ∙ ap (λ (l : List ℕ). orderRecord (m .start) (m .asked) (m .allowed) ++ l)
+          (sym (append-nil (frameRecords (frameNumber (m .start)) (m .frames) (m .asked))));
     }
 
 pub measured-once : MeasuredOnce
@@ -328,13 +360,15 @@ module _ (s report : List ℕ) (B : AllBytes s) (E : Examination s report) (a : 
 
   number-due : (k : ℕ) → k < a .n → a .numbers k ≡ frameNumber (a .start) k
   number-due k h =
-      same-frame s a (of-measured s m) k h (let e = all-came in omega arith) .0 ∙ ap (λ (x : ℕ). frameNumber x k) (sym (ap (λ (t : ℕ × ℕ × ℕ). t .0) (same-order s a (of-measured s m))))
+      same-frame s a (of-measured s m) k h (let e = all-came in omega arith) .0
+      ∙ ap (λ (x : ℕ). frameNumber x k) (sym (ap (λ (t : ℕ × ℕ × ℕ). t .0) (same-order s a (of-measured s m))))
 
   nothing-more : a .rest ≡ []
   nothing-more = none-left 0 (a .rest) (let l = length-there s a in let k = length-there s (of-measured s m) in let e = all-came in omega arith)
 
   each-locks : (k : ℕ) → k < a .n → locks (a .frames k) 0 ≡ true
-  each-locks k h = let l : k < m .asked = (let e = all-came in omega arith) in ap (λ (f : List ℕ). locks f 0) (same-frame s a (of-measured s m) k h l .1) ∙ m .locked k l
+  each-locks k h =
+      let l : k < m .asked = (let e = all-came in omega arith) in ap (λ (f : List ℕ). locks f 0) (same-frame s a (of-measured s m) k h l .1) ∙ m .locked k l
 
   few : a .n ≤ frameLimit
   few = let w = m .within in let e = all-came in omega arith
@@ -346,8 +380,12 @@ numbers-differ start j k h l e = omega arith
 pub never-pass : NeverPass
 never-pass =
     record {
-      missing = λ s report B E a i h none L. none i (let e = all-came s report B E a L in let f = asked-is s report B E a L in omega arith) (number-due s report B E a L i (let e = all-came s report B E a L in let f = asked-is s report B E a L in omega arith));
-      doubled = λ s report B E a j k h l e L. numbers-differ (a .start) j k h (let f = few s report B E a L in omega arith) (sym (number-due s report B E a L j (omega arith)) ∙ e ∙ number-due s report B E a L k l);
+      missing =
+          λ s report B E a i h none L. none i (let e = all-came s report B E a L in let f = asked-is s report B E a L in omega arith)
+          (number-due s report B E a L i (let e = all-came s report B E a L in let f = asked-is s report B E a L in omega arith));
+      doubled =
+          λ s report B E a j k h l e L. numbers-differ (a .start) j k h (let f = few s report B E a L in omega arith)
+          (sym (number-due s report B E a L j (omega arith)) ∙ e ∙ number-due s report B E a L k l);
       outOfOrder = λ s report B E a k h n L. n (number-due s report B E a L k h);
       cut = λ s report B E a n L. n (nothing-more s report B E a L);
       unlocked = λ s report B E a k h n L. false≢true (sym n ∙ each-locks s report B E a L k h);
@@ -366,9 +404,23 @@ record Prefix (s : List ℕ) (start asked allowed k : ℕ) : Type 0 where
 module _ (s : List ℕ) (B : AllBytes s) (start asked allowed : ℕ) (small : (start < 2 ^ 32) × (asked < 2 ^ 32) × (allowed < 2 ^ 32)) where
   no-more : (k : ℕ) → Prefix s start asked allowed k → ((number from next : ℕ) → readAt (drop (framePlace k) s) 0 ≢ Frame number from next) → Arrived s
   no-more k P h =
-      record { start = start; asked = asked; allowed = allowed; n = k; numbers = numberIn s; frames = framesIn s; rest = drop (framePlace k) s; small = small; whole = P .whole; noFrame = h; capture = P .capture }
+      record {
+        start = start;
+        asked = asked;
+        allowed = allowed;
+        n = k;
+        numbers = numberIn s;
+        frames = framesIn s;
+        rest = drop
+            (framePlace k) s;
+        small = small;
+        whole = P .whole;
+        noFrame = h;
+        capture = P .capture;
+      }
 
-  one-frame : (k number from next : ℕ) → Prefix s start asked allowed k → readAt (drop (framePlace k) s) 0 ≡ Frame number from next → Prefix s start asked allowed (suc k)
+  one-frame : (k number from next : ℕ) → Prefix s start asked allowed k → readAt (drop (framePlace k) s) 0 ≡ Frame number from next
+      → Prefix s start asked allowed (suc k)
   unfolding frameRecords shifted numberIn
   one-frame k number from next P e =
       let is : numberIn s k ≡ number = ap (λ (r : Read). numbersRead r .0) (reads-from-here s (framePlace k) ∙ ap (shifted (framePlace k)) e) in
@@ -377,7 +429,8 @@ module _ (s : List ℕ) (B : AllBytes s) (start asked allowed : ℕ) (small : (s
         capture =
             P .capture
             ∙ ap (λ (x : List ℕ). orderRecord start asked allowed ++ x)
-            (ap (λ (x : List ℕ). frameRecords (numberIn s) (framesIn s) k ++ x) (record-there s B k number from next e ∙ ap (λ (x : ℕ). frameRecord x (framesIn s k) ++ drop (framePlace (suc k)) s) (sym is))
+            (ap (λ (x : List ℕ). frameRecords (numberIn s) (framesIn s) k ++ x)
+            (record-there s B k number from next e ∙ ap (λ (x : ℕ). frameRecord x (framesIn s k) ++ drop (framePlace (suc k)) s) (sym is))
             ∙ sym (append-assoc (frameRecords (numberIn s) (framesIn s) k) (frameRecord (numberIn s k) (framesIn s k)) (drop (framePlace (suc k)) s)));
       }
 
@@ -390,8 +443,10 @@ module _ (s : List ℕ) (B : AllBytes s) (start asked allowed : ℕ) (small : (s
   by-read k (Frame number from next) e P more = more number from next e
 
   arrives : (m k : ℕ) → length s ≤ framePlace k + m → Prefix s start asked allowed k → Arrived s
-  arrives zero k h P = by-read k (readAt (drop (framePlace k) s) 0) refl P (λ number from next e. absurd (let i = ends-inside s B k number from next e in omega arith))
-  arrives (suc m) k h P = by-read k (readAt (drop (framePlace k) s) 0) refl P (λ number from next e. arrives m (suc k) (omega arith) (one-frame k number from next P e))
+  arrives zero k h P =
+      by-read k (readAt (drop (framePlace k) s) 0) refl P (λ number from next e. absurd (let i = ends-inside s B k number from next e in omega arith))
+  arrives (suc m) k h P =
+      by-read k (readAt (drop (framePlace k) s) 0) refl P (λ number from next e. arrives m (suc k) (omega arith) (one-frame k number from next P e))
 
 pub arrived-always : ArrivedAlways
 unfolding frameRecords

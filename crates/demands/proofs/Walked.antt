@@ -51,19 +51,24 @@ module _ (start asked allowed : ℕ) (frames : ℕ → List ℕ) (hs : start < 2
       length-append (orderRecord start asked allowed) (frameRecords (frameNumber start) frames asked ++ [])
       ∙ (let o = records .recordLengths .0 start asked allowed in
       let f = records .recordLengths .2 asked (frameNumber start) frames whole in
-      let n : length (frameRecords (frameNumber start) frames asked ++ []) ≡ length (frameRecords (frameNumber start) frames asked) + 0 = length-append (frameRecords (frameNumber start) frames asked) [] in omega arith)
+      let n : length (frameRecords (frameNumber start) frames asked ++ [])
+      ≡ length (frameRecords (frameNumber start) frames asked) + 0 = length-append (frameRecords (frameNumber start) frames asked) [] in omega arith)
 
   walks-on : (j n k : ℕ) → k + j ≡ asked → j ≤ n → walked n bytes (framePlace k) (after start asked allowed frames k) ≡ after start asked allowed frames asked
   unfolding cameAs frameCame
   walks-on zero n k e h =
       let q : k ≡ asked = omega arith in
-      walked-end n bytes (framePlace k) (after start asked allowed frames k) (sym (at-end bytes (framePlace k) (let l = bytes-length in omega arith))) ∙ ap (after start asked allowed frames) q
+      walked-end n bytes (framePlace k) (after start asked allowed frames k) (sym (at-end bytes (framePlace k) (let l = bytes-length in omega arith)))
+      ∙ ap (after start asked allowed frames) q
   walks-on (suc j) zero k e h = absurd (omega arith)
   walks-on (suc j) (suc n) k e h =
-      let R = records .framesRead asked (frameNumber start) frames (orderRecord start asked allowed) [] (λ i l. (omega arith, whole i l)) k (framePlace k) (omega arith) (let o = records .recordLengths .0 start asked allowed in omega arith) in
+      let R = records .framesRead asked (frameNumber start) frames (orderRecord start asked allowed) [] (λ i l. (omega arith, whole i l)) k (framePlace k)
+      (omega arith) (let o = records .recordLengths .0 start asked allowed in omega arith) in
       let next : framePlace k + layout .frameBytes ≡ framePlace (suc k) = omega arith in
       walked-one n bytes (framePlace k) (after start asked allowed frames k) _ (R .0)
-      ∙ (λ i. walked n bytes (next i) ((ap (framed (after start asked allowed frames k) (frameNumber start k)) (R .1) ∙ framed-next start asked allowed frames k (omega arith) (locked k (omega arith))) i))
+      ∙ (λ i. walked n bytes (next i)
+      ((ap (framed (after start asked allowed frames k) (frameNumber start k)) (R .1)
+      ∙ framed-next start asked allowed frames k (omega arith) (locked k (omega arith))) i))
       ∙ walks-on j n (suc k) (omega arith) (omega arith)
 
   measured-state : examined bytes ≡ after start asked allowed frames asked
@@ -71,14 +76,18 @@ module _ (start asked allowed : ℕ) (frames : ℕ → List ℕ) (hs : start < 2
   measured-state =
       let l : length bytes ≡ suc (layout .orderBytes - 1 + asked * layout .frameBytes) = bytes-length ∙ (omega arith) in
       ap (λ (m : ℕ). walked m bytes 0 fresh) l
-      ∙ walked-one (layout .orderBytes - 1 + asked * layout .frameBytes) bytes 0 fresh _ (records .orderReads start asked allowed (frameRecords (frameNumber start) frames asked ++ []) hs ha hw)
-      ∙ ap (walked (layout .orderBytes - 1 + asked * layout .frameBytes) bytes (layout .orderBytes)) (ordered-first start asked allowed frames hs bytes (layout .orderBytes))
+      ∙ walked-one (layout .orderBytes - 1 + asked * layout .frameBytes) bytes 0 fresh _
+      (records .orderReads start asked allowed (frameRecords (frameNumber start) frames asked ++ []) hs ha hw)
+      ∙ ap (walked (layout .orderBytes - 1 + asked * layout .frameBytes) bytes (layout .orderBytes))
+      (ordered-first start asked allowed frames hs bytes (layout .orderBytes))
       ∙ walks-on asked (layout .orderBytes - 1 + asked * layout .frameBytes) 0 (omega arith) (omega arith)
 
 -- any capture that was measured
 pub measured-run : (s : List ℕ) (m : Measured s) → examined s .run ≡ measuredRun m
 measured-run s m =
-    ap (λ (x : List ℕ). examined x .run) (m .capture ∙ ap (λ (l : List ℕ). orderRecord (m .start) (m .asked) (m .allowed) ++ l) (sym (append-nil (frameRecords (frameNumber (m .start)) (m .frames) (m .asked)))))
+    ap (λ (x : List ℕ). examined x .run)
+    (m .capture ∙ ap (λ (l : List ℕ). orderRecord (m .start) (m .asked) (m .allowed) ++ l)
+    (sym (append-nil (frameRecords (frameNumber (m .start)) (m .frames) (m .asked)))))
     ∙ ap (λ (st : State). st .run)
     (measured-state (m .start) (m .asked) (m .allowed) (m .frames) (m .numbers .0) (m .numbers .1) (m .numbers .2) (m .within) (m .whole) (m .locked))
 
@@ -178,11 +187,14 @@ module _ (s : List ℕ) (B : AllBytes s) (start asked allowed : ℕ) (hs : start
           capture =
               F .capture
               ∙ ap (λ (x : List ℕ). orderRecord start asked allowed ++ x)
-              (ap (λ (x : List ℕ). frameRecords (frameNumber start) (framesIn s) k ++ x) (record-there s B k number from next read ∙ ap (λ (x : ℕ). frameRecord x (framesIn s k) ++ drop (framePlace (suc k)) s) n)
-              ∙ sym (append-assoc (frameRecords (frameNumber start) (framesIn s) k) (frameRecord (frameNumber start k) (framesIn s k)) (drop (framePlace (suc k)) s)));
+              (ap (λ (x : List ℕ). frameRecords (frameNumber start) (framesIn s) k ++ x)
+              (record-there s B k number from next read ∙ ap (λ (x : ℕ). frameRecord x (framesIn s k) ++ drop (framePlace (suc k)) s) n)
+              ∙ sym (append-assoc (frameRecords (frameNumber start) (framesIn s) k) (frameRecord (frameNumber start k) (framesIn s k))
+              (drop (framePlace (suc k)) s)));
         }
 
-  back : (n k : ℕ) → length s ≤ framePlace k + n → SoFar s start asked allowed k → Comes s (walked n s (framePlace k) (after start asked allowed (framesIn s) k))
+  back : (n k : ℕ) → length s ≤ framePlace k + n → SoFar s start asked allowed k
+      → Comes s (walked n s (framePlace k) (after start asked allowed (framesIn s) k))
   unfolding walked shifted cameAs orderCame frameCame
   back zero k e F = λ g m. at-last k F (omega arith) m
   back (suc n) k e F = go (readAt (drop (framePlace k) s) 0) refl (back n (suc k) (omega arith))
@@ -193,7 +205,8 @@ module _ (s : List ℕ) (B : AllBytes s) (start asked allowed : ℕ) (hs : start
       there : (r : Read) → readAt (drop (framePlace k) s) 0 ≡ r → readAt s (framePlace k) ≡ shifted (framePlace k) r
       there r q = reads-from-here s (framePlace k) ∙ ap (shifted (framePlace k)) q
 
-      here : (r : Read) → readAt (drop (framePlace k) s) 0 ≡ r → walked (suc n) s (framePlace k) st ≡ walked n s (nextOf (shifted (framePlace k) r) (framePlace k)) (cameAs (shifted (framePlace k) r) st s)
+      here : (r : Read) → readAt (drop (framePlace k) s) 0 ≡ r
+          → walked (suc n) s (framePlace k) st ≡ walked n s (nextOf (shifted (framePlace k) r) (framePlace k)) (cameAs (shifted (framePlace k) r) st s)
       here r q = walked-one n s (framePlace k) st (shifted (framePlace k) r) (there r q)
 
       frame : (number from next : ℕ) → readAt (drop (framePlace k) s) 0 ≡ Frame number from next
@@ -201,18 +214,26 @@ module _ (s : List ℕ) (B : AllBytes s) (start asked allowed : ℕ) (hs : start
           → (SoFar s start asked allowed (suc k) → Comes s (walked n s (framePlace (suc k)) (after start asked allowed (framesIn s) (suc k))))
           → Comes s (walked n s (framePlace k + next) (framed st number (symbolsAt s (framePlace k + from))))
       frame number from next q (inl l) IH =
-          subst (λ (f : List ℕ). Comes s (walked n s (framePlace k + next) (framed st number f))) (sym (symbols-here s (framePlace k) from ∙ symbols s B k number from next q))
-          (lost-comes s (walked n s (framePlace k + next) (framed st number (framesIn s k))) (walked-lost n s (framePlace k + next) (framed st number (framesIn s k)) l))
+          subst (λ (f : List ℕ). Comes s (walked n s (framePlace k + next) (framed st number f)))
+          (sym (symbols-here s (framePlace k) from ∙ symbols s B k number from next q))
+          (lost-comes s (walked n s (framePlace k + next) (framed st number (framesIn s k)))
+          (walked-lost n s (framePlace k + next) (framed st number (framesIn s k)) l))
       frame number from next q (inr (t, l, h)) IH =
           subst (Comes s)
-          (sym (λ i. walked n s (moves s B k number from next q i) ((ap (framed st number) (symbols-here s (framePlace k) from ∙ symbols s B k number from next q) ∙ ap (λ (x : ℕ). framed st x (framesIn s k)) t ∙ framed-next start asked allowed (framesIn s) k h l) i)))
+          (sym (λ i. walked n s (moves s B k number from next q i)
+          ((ap (framed st number) (symbols-here s (framePlace k) from ∙ symbols s B k number from next q) ∙ ap (λ (x : ℕ). framed st x (framesIn s k)) t
+          ∙ framed-next start asked allowed (framesIn s) k h l) i)))
           (IH (one-more k number from next F q t l h))
 
-      go : (r : Read) → readAt (drop (framePlace k) s) 0 ≡ r → (SoFar s start asked allowed (suc k) → Comes s (walked n s (framePlace (suc k)) (after start asked allowed (framesIn s) (suc k))))
+      go : (r : Read) → readAt (drop (framePlace k) s) 0 ≡ r
+          → (SoFar s start asked allowed (suc k) → Comes s (walked n s (framePlace (suc k)) (after start asked allowed (framesIn s) (suc k))))
           → Comes s (walked (suc n) s (framePlace k) st)
       go End q IH = subst (Comes s) (sym (walked-end (suc n) s (framePlace k) st (there End q))) (λ g m. at-last k F (end s (framePlace k) (there End q)) m)
-      go (Refused refusal) q IH = subst (Comes s) (sym (here (Refused refusal) q)) (stopped-comes s n (framePlace k) (cameAs (Refused refusal) st s) (refused-stops st s refusal))
-      go (Order start′ asked′ allowed′ next) q IH = subst (Comes s) (sym (here (Order start′ asked′ allowed′ next) q)) (stopped-comes s n (framePlace k + next) (cameAs (Order start′ asked′ allowed′ (framePlace k + next)) st s) refl)
+      go (Refused refusal) q IH =
+          subst (Comes s) (sym (here (Refused refusal) q)) (stopped-comes s n (framePlace k) (cameAs (Refused refusal) st s) (refused-stops st s refusal))
+      go (Order start′ asked′ allowed′ next) q IH =
+          subst (Comes s) (sym (here (Order start′ asked′ allowed′ next) q))
+          (stopped-comes s n (framePlace k + next) (cameAs (Order start′ asked′ allowed′ (framePlace k + next)) st s) refl)
       go (Frame number from next) q IH =
           subst (Comes s) (sym (here (Frame number from next) q))
           (frame number from next q (next-or-lost start asked allowed (framesIn s) k number (framesIn s k) (found s B k number from next q .0)) IH)
@@ -225,12 +246,16 @@ from-order s B (suc n) h = go (readAt s 0) refl
   where
     go : (r : Read) → readAt s 0 ≡ r → Comes s (walked (suc n) s 0 fresh)
     go End q = subst (Comes s) (sym (walked-end (suc n) s 0 fresh q)) (λ g m. absurd (false≢true g))
-    go (Refused refusal) q = subst (Comes s) (sym (walked-one n s 0 fresh (Refused refusal) q)) (stopped-comes s n 0 (cameAs (Refused refusal) fresh s) (refused-stops fresh s refusal))
-    go (Frame number from next) q = subst (Comes s) (sym (walked-one n s 0 fresh (Frame number from next) q)) (stopped-comes s n next (cameAs (Frame number from next) fresh s) refl)
+    go (Refused refusal) q =
+        subst (Comes s) (sym (walked-one n s 0 fresh (Refused refusal) q))
+        (stopped-comes s n 0 (cameAs (Refused refusal) fresh s) (refused-stops fresh s refusal))
+    go (Frame number from next) q =
+        subst (Comes s) (sym (walked-one n s 0 fresh (Frame number from next) q)) (stopped-comes s n next (cameAs (Frame number from next) fresh s) refl)
     go (Order start asked allowed next) q =
         let O = records .orderFound s start asked allowed next B q in
         let at : next ≡ framePlace 0 = O .3 in
-        subst (Comes s) (sym (walked-one n s 0 fresh (Order start asked allowed next) q ∙ (λ i. walked n s (at i) (ordered-first start asked allowed (framesIn s) (O .0) s next i))))
+        subst (Comes s) (sym (walked-one n s 0 fresh (Order start asked allowed next) q
+        ∙ (λ i. walked n s (at i) (ordered-first start asked allowed (framesIn s) (O .0) s next i))))
         (back s B start asked allowed (O .0) (O .1) (O .2) n 0 (omega arith)
         (record {
           within = omega arith;
@@ -239,6 +264,7 @@ from-order s B (suc n) h = go (readAt s 0) refl
           capture = O .4 ∙ ap (λ (i : ℕ). orderRecord start asked allowed ++ drop i s) at;
         }))
 
-pub measured-back : (s : List ℕ) → AllBytes s → goesOn (examined s .run .phase) ≡ true → measured (examined s .run .asked) (examined s .run .account) ≡ true → Measured s
+pub measured-back : (s : List ℕ) → AllBytes s → goesOn (examined s .run .phase) ≡ true → measured (examined s .run .asked) (examined s .run .account) ≡ true
+    → Measured s
 unfolding examined
 measured-back s B = from-order s B (length s) (omega arith)

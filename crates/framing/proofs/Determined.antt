@@ -13,5 +13,6 @@ pub send-determined : Fixes 3 send-kinds.ps send-kinds.r send-reads.Post (λ κs
 send-determined κs a x y s t p q = (p .number ∙ sym (q .number), (p .store ∙ sym (q .store), p .output ∙ sym (q .output)))
 
 -- the number, and the store, the output and the flags at exit
-pub receive-determined : Fixes 4 receive-kinds.ps receive-kinds.r receive-reads.Post (λ κs s t. (now (s .1 .0) ≡ now (t .1 .0)) × (now (s .1 .1 .0) ≡ now (t .1 .1 .0)) × (now (s .1 .1 .1 .0) ≡ now (t .1 .1 .1 .0)))
+pub receive-determined : Fixes 4 receive-kinds.ps receive-kinds.r receive-reads.Post
+    (λ κs s t. (now (s .1 .0) ≡ now (t .1 .0)) × (now (s .1 .1 .0) ≡ now (t .1 .1 .0)) × (now (s .1 .1 .1 .0) ≡ now (t .1 .1 .1 .0)))
 receive-determined κs a x y s t p q = (p .number ∙ sym (q .number), (p .store ∙ sym (q .store), p .output ∙ sym (q .output), p .flags ∙ sym (q .flags)))

@@ -66,8 +66,12 @@ unfolding bitAt bitOf interleavedStore storeBit permuted named
 store-unwritten r o C =
     let none : bitAt fresh 0 ≡ 0 = ap (λ (v : ℕ). v / 128 % 2) (getD-replicate 2880 0 0 0 (omega arith)) in
     let all : bitAt (filled 255) 1240 ≡ 1 = ap (λ (v : ℕ). v / 128 % 2) (getD-replicate 5280 155 255 0 (omega arith)) in
-    let kept : fresh ≡ interleavedStore base (filled 255) fresh = done base (filled 255) fresh room r fresh o (long 5280 255) (long 2880 0) (long 6144 0) C .1 in
-    let first : bitAt (interleavedStore base (filled 255) fresh) 0 ≡ bitAt (filled 255) 1240 = stored-bit sender fresh (permuted base (lanesOf (filled 255))) (permuted-lt base (lanesOf (filled 255)) (lanes-lt (filled 255))) 0 0 (omega arith) (omega arith) in
+    let kept : fresh ≡ interleavedStore base (filled 255) fresh = done base (filled 255) fresh room r fresh o (long 5280 255) (long 2880 0)
+    (long 6144 0) C .1 in
+    let first : bitAt (interleavedStore base (filled 255) fresh) 0
+    ≡ bitAt (filled 255) 1240 =
+    stored-bit sender fresh (permuted base (lanesOf (filled 255))) (permuted-lt base (lanesOf (filled 255)) (lanes-lt (filled 255))) 0 0 (omega arith)
+    (omega arith) in
     let e : _≡_ {A = ℕ} 0 1 = sym none ∙ ap (λ (s : List ℕ). bitAt s 0) kept ∙ first ∙ all in
     omega arith
 

@@ -40,7 +40,8 @@ module _ (f : List ℕ) (i : ℕ) (h : i < 384) where
   pub passed-at : wordAt (mendedFrame (wordsOf f)) i ≡ passedOn (arrived f i)
   unfolding mendedFrame passedOn
   passed-at =
-      let small : passedOn (wordAt (wordsOf f) i) < 2 ^ 126 = mended-lt (wordAt (wordsOf f) i) (subst (λ (w : ℕ). w < 2 ^ 126) (sym arrived-at) (arrived-lt f i)) in
+      let small : passedOn (wordAt (wordsOf f) i) < 2 ^ 126 = mended-lt (wordAt (wordsOf f) i)
+      (subst (λ (w : ℕ). w < 2 ^ 126) (sym arrived-at) (arrived-lt f i)) in
       row-at 384 (λ i. mended (wordAt (wordsOf f) i) (mend (wordAt (wordsOf f) i))) i h small ∙ ap (λ (w : ℕ). mended w (mend w)) arrived-at
 
   pub flag-at : getD (receivedFlags f) i 0 ≡ flagOf (mend (arrived f i))
@@ -71,7 +72,8 @@ module _ (ex : Places) (n : ℕ) (frames outs flagBuffers : ℕ → List ℕ) (n
   store-whole zero h = ap length (R .fresh) ∙ length-replicate {A = ℕ} 2880 0
   store-whole (suc f) h =
       ap length (R .call f h .store)
-      ∙ either (eqb (receiveNumber (frames f) (stores f) (outs f) (flagBuffers f)) 0) (receivedStore (frames f) (stores f)) (stores f) (store-length (frames f) (stores f))
+      ∙ either (eqb (receiveNumber (frames f) (stores f) (outs f) (flagBuffers f)) 0) (receivedStore (frames f) (stores f)) (stores f)
+      (store-length (frames f) (stores f))
       (store-whole f (omega arith))
     where
       either : (b : Bool) (x y : List ℕ) → length x ≡ 2880 → length y ≡ 2880 → length (cond b x y) ≡ 2880

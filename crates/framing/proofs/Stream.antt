@@ -35,8 +35,10 @@ module _ (ex : Places) (a s : List ℕ) (i : ℕ) (h : i < 384) where
   sent-word =
       let v = interleavedFrame ex a s in
       let e : informationOf (wordAt (laneWords v) i) ≡ informationAt v i = word-information v i h in
-      let small : coded (informationOf (wordAt (laneWords v) i)) < 2 ^ 126 = subst (λ (m : ℕ). coded m < 2 ^ 126) (sym e) (sent-is-code (informationAt v i) (information-lt v i) .1) in
-      let at : wordAt (codedFrame (laneWords v)) i ≡ coded (informationOf (wordAt (laneWords v) i)) = row-at 384 (λ i. coded (informationOf (wordAt (laneWords v) i))) i h small in
+      let small : coded (informationOf (wordAt (laneWords v) i)) < 2 ^ 126 = subst (λ (m : ℕ). coded m < 2 ^ 126) (sym e)
+      (sent-is-code (informationAt v i) (information-lt v i) .1) in
+      let at : wordAt (codedFrame (laneWords v)) i
+      ≡ coded (informationOf (wordAt (laneWords v) i)) = row-at 384 (λ i. coded (informationOf (wordAt (laneWords v) i))) i h small in
       arrived-frame (codedFrame (laneWords v)) i h (subst (λ (w : ℕ). w < 2 ^ 126) (sym at) small) ∙ at ∙ ap coded e
 
   pub sent-code : CodeWord (arrived (sentFrame ex a s) i)
@@ -87,7 +89,8 @@ module _ (ex : Places) (n : ℕ) (lanes room : ℕ → List ℕ) (numbers : ℕ 
   interleaves : Interleaves ex n lanes (λ f. interleavedFrame ex (lanes f) (stores f)) stores
   interleaves = record { fresh = S .fresh; out = λ f h. refl; next = next }
 
-  carried : (p w q : ℕ) → p < 32 → w < 12 * n → q < 110 → bitOf 126 (arrived (frames (w / 12)) (32 * (w % 12) + p)) q ≡ interleaved ex (streamBit lanes) p (110 * w + q)
+  carried : (p w q : ℕ) → p < 32 → w < 12 * n → q < 110
+      → bitOf 126 (arrived (frames (w / 12)) (32 * (w % 12) + p)) q ≡ interleaved ex (streamBit lanes) p (110 * w + q)
   unfolding streamBit
   carried p w q hp hw hq =
       let f = w / 12 in
@@ -104,6 +107,7 @@ module _ (ex : Places) (n : ℕ) (lanes room : ℕ → List ℕ) (numbers : ℕ 
 pub block-rule : BlockRule
 block-rule ex n lanes room numbers frames stores S = (
   number ex n lanes room numbers frames stores S,
-  λ f i h l. subst (λ (x : List ℕ). CodeWord (arrived x i)) (sym (frame-sent ex n lanes room numbers frames stores S f h)) (sent-code ex (lanes f) (stores f) i l),
+  λ f i h l. subst (λ (x : List ℕ). CodeWord (arrived x i)) (sym (frame-sent ex n lanes room numbers frames stores S f h))
+      (sent-code ex (lanes f) (stores f) i l),
   carried ex n lanes room numbers frames stores S,
 )

@@ -62,7 +62,9 @@ fn receive_frame(
     lanes: &mut [u8; 5280],
     flags: &mut [u8; 384],
 )
-    ensures { λ _. ⌜ (now (lanes .exit) ≡ receivedLanes base (now (frame .entry)) (now (store .entry))) × (now (store .exit) ≡ receivedStore (now (frame .entry)) (now (store .entry))) × (now (flags .exit) ≡ receivedFlags (now (frame .entry))) ⌝ }
+    ensures { λ _. ⌜ (now (lanes .exit) ≡ receivedLanes base (now (frame .entry)) (now (store .entry)))
+        × (now (store .exit) ≡ receivedStore (now (frame .entry)) (now (store .entry)))
+        × (now (flags .exit) ≡ receivedFlags (now (frame .entry))) ⌝ }
 {
     let mut words = [0u64; 768];
     symbols::words_from_frame(frame, &mut words);
@@ -75,7 +77,8 @@ fn receive_frame(
 // The same over slices of the right lengths.
 fn receive_slices(input: &[u8], store: &mut [u8], output: &mut [u8], flags: &mut [u8])
     requires { ⌜ (length (now input) ≡ 6144) × (length (now store) ≡ 2880) × (length (now output) ≡ 5280) × (length (now flags) ≡ 384) ⌝ }
-    ensures { λ _. ⌜ (now (output .exit) ≡ receivedLanes base (now (input .entry)) (now (store .entry))) × (now (store .exit) ≡ receivedStore (now (input .entry)) (now (store .entry))) × (now (flags .exit) ≡ receivedFlags (now (input .entry))) ⌝ }
+    ensures { λ _. ⌜ (now (output .exit) ≡ receivedLanes base (now (input .entry)) (now (store .entry)))
+        × (now (store .exit) ≡ receivedStore (now (input .entry)) (now (store .entry))) × (now (flags .exit) ≡ receivedFlags (now (input .entry))) ⌝ }
 {
     let mut frame = [0u8; 6144];
     bits::copy(input, &mut frame);
@@ -92,7 +95,8 @@ fn receive_slices(input: &[u8], store: &mut [u8], output: &mut [u8], flags: &mut
 // A frame received: 6,144 symbols in, 5,280 bytes of lanes and 384 flag bytes out, and the store kept. A wrong length, or no lock, is refused by its
 // number and changes nothing.
 pub fn receive(input: &[u8], store: &mut [u8], output: &mut [u8], flags: &mut [u8]) -> u32
-    ensures { λ r. ⌜ Receives base (now (input .entry)) (now (store .entry)) (now (output .entry)) (now (flags .entry)) r (now (store .exit)) (now (output .exit)) (now (flags .exit)) ⌝ }
+    ensures { λ r. ⌜ Receives base (now (input .entry)) (now (store .entry)) (now (output .entry)) (now (flags .entry)) r (now (store .exit))
+        (now (output .exit)) (now (flags .exit)) ⌝ }
 {
     if input.len() != 6144 {
         return 1;

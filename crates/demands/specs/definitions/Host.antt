@@ -12,11 +12,13 @@ use Rattle.bench.specs.definitions.Walk.{pieces}
 use Rattle.adderbloom.specs.definitions.Run.{phaseOf, keptRun, Steps}
 use Rattle.adderbloom.specs.declared.runs.Run.{Run}
 
--- what a step is given: a piece, as `lr800_wanted` cuts it off, or bytes that begin with it, as by a host that goes by `lr800_read`'s places and gives all that is left
+-- what a step is given: a piece, as `lr800_wanted` cuts it off, or bytes that begin with it, as by a host that goes by `lr800_read`'s places and gives all that
+-- is left
 abbrev pub Gives : List ℕ → List ℕ → Type 0
 Gives bytes piece = (bytes ≡ piece) ⊎ (take (wanted bytes) bytes ≡ piece)
 
--- The calls of a host over the capture s, as the contracts allow: `lr800_run_open`, then a `lr800_run_step` for each piece in its turn, to the last or to what stops the run, with
+-- The calls of a host over the capture s, as the contracts allow: `lr800_run_open`, then a `lr800_run_step` for each piece in its turn, to the last or to what
+-- stops the run, with
 -- one store of 2,880 bytes that may hold anything.
 pub record Hosted (s : List ℕ) (r : Run) : Type 0 where
   pub steps : ℕ

@@ -59,7 +59,13 @@ measuredRun m =
             expected = frameNumber (m .start) (m .asked);
             accepted = m .asked;
             missing = 0;
-            words = record { clean = wordsIn 0 (m .frames) (m .asked); one = wordsIn 1 (m .frames) (m .asked); two = wordsIn 2 (m .frames) (m .asked); flagged = wordsIn 3 (m .frames) (m .asked) };
+            words = record {
+              clean = wordsIn 0 (m .frames) (m .asked);
+              one = wordsIn 1 (m .frames) (m .asked);
+              two = wordsIn 2 (m .frames)
+                  (m .asked);
+              flagged = wordsIn 3 (m .frames) (m .asked);
+            };
           };
     }
 

@@ -4,7 +4,8 @@ use Rattle.demands.specs.statements.Return.{Return, UndamagedExist, OneF
 use Rattle.demands.specs.statements.Trial.{FlipsCounted, RefusedExactly, TrialsExist}
 use Rattle.demands.specs.statements.OneForAll.{OneForAll, TwoFlips}
 use Rattle.demands.specs.statements.Tallies.{TalliesAlike}
-use Rattle.demands.specs.statements.Verdict.{PassExactly, FailExactly, NotMeasuredExactly, ProgramSays, MeasuredOnce, ExaminationsExist, ArrivedAlways, NeverPass, AllCounted, AlwaysCounted, StepNumbers}
+use Rattle.demands.specs.statements.Verdict.{PassExactly, FailExactly, NotMeasuredExactly, ProgramSays, MeasuredOnce, ExaminationsExist, ArrivedAlways}
+use Rattle.demands.specs.statements.Verdict.{NeverPass, AllCounted, AlwaysCounted, StepNumbers}
 use Rattle.demands.specs.statements.ReedSolomon.{SpansExist, SpansLabel, CarriesExactly, ReedSolomonBound, FourPairs, OtherPlaces, OtherPairs}
 
 -- the demands over streams and captures, sentence by sentence
@@ -17,7 +18,8 @@ pub record Demands : Type 0 where
   pub undamaged : UndamagedExist
   -- demand 2: at most two flips in a word are mended
   pub twoFlips : TwoFlips
-  -- demand 2: PASS exactly if; FAIL likewise; and everything else; what the program prints; that a capture has one meaning and a report; and what an examiner may read from it
+  -- demand 2: PASS exactly if; FAIL likewise; and everything else; what the program prints; that a capture has one meaning and a report; and what an examiner
+  -- may read from it
   pub pass : PassExactly
   pub fail : FailExactly
   pub notMeasured : NotMeasuredExactly

@@ -9,7 +9,8 @@ use Rattle.lanes.specs.definitions.Permutation.{Places}
 use Rattle.lanes.specs.definitions.Stream.{streamBit}
 use Rattle.demands.specs.definitions.Return.{Undamaged}
 
--- no call is refused, every frame's lanes come back whole and every flag is 0, the first 36 blocks of every lane (1,440 bits) are zeros, and bit i of a lane comes back as its bit i + 1,440
+-- no call is refused, every frame's lanes come back whole and every flag is 0, the first 36 blocks of every lane (1,440 bits) are zeros, and bit i of a lane
+-- comes back as its bit i + 1,440
 abbrev pub Return : Type 0
 Return =
     (ex : Places) (n : ℕ) (lanes : ℕ → List ℕ) (sentNumbers numbers : ℕ → ℕ) (back flagBytes : ℕ → List ℕ)

@@ -21,12 +21,14 @@ returns-2 c =
 returns-3 : tie.Need-returns-3
 returns-3 c =
     let x = c .before .before .before .before .before .before .before .args in
-    refused base (x .input .now) (x .store .now) (x .output .now) (x .flags .now) 2 (short-lanes _ _ _ _ (c .before .before .if1 .left) (c .before .if2 .left) (c .if3 .taken))
+    refused base (x .input .now) (x .store .now) (x .output .now) (x .flags .now) 2
+    (short-lanes _ _ _ _ (c .before .before .if1 .left) (c .before .if2 .left) (c .if3 .taken))
 
 returns-4 : tie.Need-returns-4
 returns-4 c =
     let x = c .before .before .before .before .before .before .before .before .args in
-    refused base (x .input .now) (x .store .now) (x .output .now) (x .flags .now) 3 (short-flags _ _ _ _ (c .before .before .before .if1 .left) (c .before .before .if2 .left) (c .before .if3 .left) (c .if4 .taken))
+    refused base (x .input .now) (x .store .now) (x .output .now) (x .flags .now) 3
+    (short-flags _ _ _ _ (c .before .before .before .if1 .left) (c .before .before .if2 .left) (c .before .if3 .left) (c .if4 .taken))
 
 locks-requires : tie.Need-locks-requires
 locks-requires c κs = search needs
@@ -34,7 +36,10 @@ locks-requires c κs = search needs
 returns-5 : tie.Need-returns-5
 returns-5 c =
     let x = c .before .before .before .before .before .before .before .before .before .before .args in
-    refused base (x .input .now) (x .store .now) (x .output .now) (x .flags .now) 4 (all-lengths _ _ _ _ (c .before .before .before .before .before .if1 .left) (c .before .before .before .before .if2 .left) (c .before .before .before .if3 .left) (c .before .before .if4 .left) ∙ ap (λ (b : Bool). cond b 0 5) (sym (c .before .locks .ensures) ∙ not-true _ (c .if5 .taken)))
+    refused base (x .input .now) (x .store .now) (x .output .now) (x .flags .now) 4
+    (all-lengths _ _ _ _ (c .before .before .before .before .before .if1 .left) (c .before .before .before .before .if2 .left)
+    (c .before .before .before .if3 .left) (c .before .before .if4 .left)
+    ∙ ap (λ (b : Bool). cond b 0 5) (sym (c .before .locks .ensures) ∙ not-true _ (c .if5 .taken)))
 
 receive-slices-requires : tie.Need-receive-slices-requires
 receive-slices-requires c κs = search needs
@@ -50,9 +55,17 @@ same-length-3 c = search needs
 
 returns-6 : tie.Need-returns-6
 returns-6 c =
-    let x = c .before .before .before .before .before .before .before .before .before .before .before .before .before .before .before .before .before .before .before .before .args in
+    let x = c .before .before .before .before .before .before .before .before .before .before .before .before .before .before .before .before .before .before
+    .before .before .args in
     let done = c .before .before .before .before .before .before .receive-slices .ensures in
-    received base (x .input .now) (x .store .now) (x .output .now) (x .flags .now) _ _ _ (all-lengths _ _ _ _ (c .before .before .before .before .before .before .before .before .before .before .before .before .before .before .before .if1 .left) (c .before .before .before .before .before .before .before .before .before .before .before .before .before .before .if2 .left) (c .before .before .before .before .before .before .before .before .before .before .before .before .before .if3 .left) (c .before .before .before .before .before .before .before .before .before .before .before .before .if4 .left) ∙ ap (λ (b : Bool). cond b 0 5) (sym (c .before .before .before .before .before .before .before .before .before .before .before .locks .ensures) ∙ not-false _ (c .before .before .before .before .before .before .before .before .before .before .if5 .left))) (done .1) (done .0) (done .2)
+    received base (x .input .now) (x .store .now) (x .output .now) (x .flags .now) _ _ _
+    (all-lengths _ _ _ _ (c .before .before .before .before .before .before .before .before .before .before .before .before .before .before .before .if1 .left)
+    (c .before .before .before .before .before .before .before .before .before .before .before .before .before .before .if2 .left)
+    (c .before .before .before .before .before .before .before .before .before .before .before .before .before .if3 .left)
+    (c .before .before .before .before .before .before .before .before .before .before .before .before .if4 .left)
+    ∙ ap (λ (b : Bool). cond b 0 5)
+    (sym (c .before .before .before .before .before .before .before .before .before .before .before .locks .ensures)
+    ∙ not-false _ (c .before .before .before .before .before .before .before .before .before .before .if5 .left))) (done .1) (done .0) (done .2)
 
 pub receive-spec : {M : Type 1} → statement M
 receive-spec =

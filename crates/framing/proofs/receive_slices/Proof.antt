@@ -37,7 +37,8 @@ copy-requires-4 : tie.Need-copy-requires-4
 copy-requires-4 c κs = search needs
 
 slice-aggregate-copy-5 : tie.Need-slice-aggregate-copy-5
-slice-aggregate-copy-5 c = sym (ap length (c .before .before .before .before .before .before .before .before .before .before .before .receive-frame .ensures .2) ∙ flags-length _)
+slice-aggregate-copy-5 c =
+    sym (ap length (c .before .before .before .before .before .before .before .before .before .before .before .receive-frame .ensures .2) ∙ flags-length _)
 
 copy-requires-5 : tie.Need-copy-requires-5
 copy-requires-5 c κs = search needs
@@ -53,15 +54,21 @@ same-length-3 c = search needs
 
 returns : tie.Need-returns
 returns c =
-    let start = c .before .before .before .before .before .before .before .before .before .before .before .before .before .before .before .before .before .before .before .before .before .before .before .before .before .before .before .before .before .before .before in
-    let frame = c .before .before .before .before .before .before .before .before .before .before .before .before .before .before .before .before .before .before .before .before .before .before .before .before .before .copy .ensures ∙ copied-all _ _ (start .pre .0) in
-    let kept = c .before .before .before .before .before .before .before .before .before .before .before .before .before .before .before .before .before .before .before .before .before .copy2 .ensures ∙ copied-all _ _ (start .pre .1) in
-    let received = c .before .before .before .before .before .before .before .before .before .before .before .before .before .before .before .receive-frame .ensures in
+    let start = c .before .before .before .before .before .before .before .before .before .before .before .before .before .before .before .before .before
+    .before .before .before .before .before .before .before .before .before .before .before .before .before .before in
+    let frame = c .before .before .before .before .before .before .before .before .before .before .before .before .before .before .before .before .before
+    .before .before .before .before .before .before .before .before .copy .ensures ∙ copied-all _ _ (start .pre .0) in
+    let kept = c .before .before .before .before .before .before .before .before .before .before .before .before .before .before .before .before .before
+    .before .before .before .before .copy2 .ensures ∙ copied-all _ _ (start .pre .1) in
+    let received = c .before .before .before .before .before .before .before .before .before .before .before .before .before .before
+    .before .receive-frame .ensures in
     let lanes = received .0 ∙ ap₂ (receivedLanes base) frame kept in
     let store = received .1 ∙ ap₂ receivedStore frame kept in
     let flags = received .2 ∙ ap receivedFlags frame in (
-      c .before .before .before .before .before .before .before .copy4 .ensures ∙ copied-all _ _ (ap length lanes ∙ lanes-length _ _ _ ∙ sym (start .pre .2)) ∙ lanes,
-      c .before .before .before .before .before .before .before .before .before .before .before .before .copy3 .ensures ∙ copied-all _ _ (ap length store ∙ store-length _ _ ∙ sym (start .pre .1)) ∙ store,
+      c .before .before .before .before .before .before .before .copy4 .ensures ∙ copied-all _ _ (ap length lanes ∙ lanes-length _ _ _ ∙ sym (start .pre .2))
+          ∙ lanes,
+      c .before .before .before .before .before .before .before .before .before .before .before .before .copy3 .ensures
+          ∙ copied-all _ _ (ap length store ∙ store-length _ _ ∙ sym (start .pre .1)) ∙ store,
       c .before .before .copy5 .ensures ∙ copied-all _ _ (ap length flags ∙ flags-length _ ∙ sym (start .pre .3)) ∙ flags,
     )
 

@@ -33,7 +33,10 @@ returns-4 : tie.Need-returns-4
 returns-4 c =
     let x = c .before .before .before .before .before .before .before .before .before .before .before .before .before .args in
     let done = c .before .before .before .before .send-slices .ensures in
-    sent base (x .input .now) (x .store .now) (x .output .now) _ _ (all-lengths _ _ _ (c .before .before .before .before .before .before .before .before .before .if1 .left) (c .before .before .before .before .before .before .before .before .if2 .left) (c .before .before .before .before .before .before .before .if3 .left)) (done .1) (done .0)
+    sent base (x .input .now) (x .store .now) (x .output .now) _ _
+    (all-lengths _ _ _ (c .before .before .before .before .before .before .before .before .before .if1 .left)
+    (c .before .before .before .before .before .before .before .before .if2 .left) (c .before .before .before .before .before .before .before .if3 .left))
+    (done .1) (done .0)
 
 pub send-spec : {M : Type 1} → statement M
 send-spec =

@@ -23,8 +23,12 @@ frame-from-words-requires c κs = search needs
 returns : tie.Need-returns
 unfolding sentFrame
 returns c =
-    let sent = c .before .before .before .before .before .before .before .before .interleave .ensures in
-    (c .frame-from-words .ensures ∙ ap frameOf (c .before .before .before .encode-frame .ensures ∙ ap codedFrame (c .before .before .before .before .before .to-words .ensures ∙ ap laneWords (sent .0))), sent .1)
+    let sent = c .before .before .before .before .before .before .before .before .interleave .ensures in (
+      c .frame-from-words .ensures
+          ∙ ap frameOf (c .before .before .before .encode-frame .ensures
+          ∙ ap codedFrame (c .before .before .before .before .before .to-words .ensures ∙ ap laneWords (sent .0))),
+      sent .1,
+    )
 
 pub send-frame-spec : {M : Type 1} → statement M
 send-frame-spec =

@@ -45,14 +45,18 @@ same-length-2 c = search needs
 
 returns : tie.Need-returns
 returns c =
-    let start = c .before .before .before .before .before .before .before .before .before .before .before .before .before .before .before .before .before .before .before .before .before .before .before .before in
-    let lanes = c .before .before .before .before .before .before .before .before .before .before .before .before .before .before .before .before .before .before .before .copy .ensures ∙ copied-all _ _ (start .pre .0) in
-    let kept = c .before .before .before .before .before .before .before .before .before .before .before .before .before .before .before .copy2 .ensures ∙ copied-all _ _ (start .pre .1) in
+    let start = c .before .before .before .before .before .before .before .before .before .before .before .before .before .before .before .before .before
+    .before .before .before .before .before .before .before in
+    let lanes = c .before .before .before .before .before .before .before .before .before .before .before .before .before .before .before .before .before
+    .before .before .copy .ensures ∙ copied-all _ _ (start .pre .0) in
+    let kept = c .before .before .before .before .before .before .before .before .before .before .before .before .before .before .before .copy2 .ensures
+    ∙ copied-all _ _ (start .pre .1) in
     let sent = c .before .before .before .before .before .before .before .before .before .before .send-frame .ensures in
     let frame = sent .0 ∙ ap₂ (sentFrame base) lanes kept in
     let store = sent .1 ∙ ap₂ (interleavedStore base) lanes kept in (
       c .before .before .copy4 .ensures ∙ copied-all _ _ (ap length frame ∙ frame-length _ _ _ ∙ sym (start .pre .2)) ∙ frame,
-      c .before .before .before .before .before .before .before .copy3 .ensures ∙ copied-all _ _ (ap length store ∙ store-length _ _ _ ∙ sym (start .pre .1)) ∙ store,
+      c .before .before .before .before .before .before .before .copy3 .ensures ∙ copied-all _ _ (ap length store ∙ store-length _ _ _ ∙ sym (start .pre .1))
+          ∙ store,
     )
 
 pub send-slices-spec : {M : Type 1} → statement M

@@ -1,4 +1,4 @@
-//! Writes calls of every function that host/adderbloom.h declares, and what each must answer and
+//! Writes calls of every function of the archive that host/adderbloom.h declares, and what each must answer and
 //! leave, as binary records to standard output for host/replay.c, which says how a record is laid
 //! out. Seeded, so that the same count and seed give the same bytes.
 //!
