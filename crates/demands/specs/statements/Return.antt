@@ -1,5 +1,5 @@
 -- Demand 2: an undamaged stream from fresh states comes back 36 blocks later in every lane, behind 36 blocks of zeros, whole but for the last 36 blocks;
--- `proofs/Return` proves each.
+-- `proofs/Return` proves the first and the last, `proofs/Trial` that there are such runs.
 -- Assumes nothing.
 use mathlib.Core.Path.{_≡_}
 use mathlib.Core.List.{List}

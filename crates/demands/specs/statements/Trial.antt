@@ -13,7 +13,7 @@ use Rattle.pilots.specs.definitions.Pilots.{lockLimit}
 use Rattle.framing.specs.definitions.Call.{unless}
 use Rattle.demands.specs.definitions.Trial.{hit, Trial, flipsIn, hitPilots}
 
--- and in so many the word that arrives differs from the word sent
+-- by so many flips a word is hit as it differs, when it arrives, from the word sent
 abbrev pub FlipsCounted : Type 0
 FlipsCounted =
     (ex : Places) (n : ℕ) (flips lanes room outs flagBuffers : ℕ → List ℕ) (t : Trial ex n flips lanes room outs flagBuffers)

@@ -1,5 +1,6 @@
 -- Demand 2: PASS is given exactly if the frames ordered, at least one, and no others were measured, no record was refused, no second order came, and
--- flagged words keep within the allowance; and what an examiner may read from a report. Over every byte string; `proofs/Verdict` proves each.
+-- flagged words keep within the allowance; and what an examiner may read from a report. Over every byte string; `proofs/Verdict`
+-- proves each, `proofs/Numbers` the last.
 -- Assumes nothing.
 use mathlib.Core.Path.{_≡_}
 use mathlib.Core.Bool.{true, false}
