@@ -1,4 +1,4 @@
--- The demands over streams and captures, all of them proved.
+-- The demands over streams, captures and a host's calls, all of them proved.
 -- Assumes nothing.
 use Rattle.demands.specs.statements.Demands.{Demands}
 use Rattle.demands.proofs.Return.{return, one-frame}
@@ -8,6 +8,7 @@ use Rattle.demands.proofs.Tallies.{tallies-alike}
 use Rattle.demands.proofs.Numbers.{step-numbers}
 use Rattle.demands.proofs.Verdict.{pass-exactly, fail-exactly, not-measured-exactly, program-says, measured-once, examinations-exist, arrived-always}
 use Rattle.demands.proofs.Verdict.{never-pass, all-counted, always-counted}
+use Rattle.demands.proofs.Host.{hosted-run, hosted-verdict, hosted-report, hosted-exists, stopped-verdict}
 use Rattle.demands.proofs.Labels.{spans-label}
 use Rattle.demands.proofs.ReedSolomon.{carries-exactly, reed-solomon-bound, four-pairs}
 use Rattle.demands.proofs.Exceeded.{spans-exist, other-places, other-pairs}
@@ -30,6 +31,11 @@ demands =
       arrived = arrived-always;
       allCounted = all-counted;
       alwaysCounted = always-counted;
+      hostedRun = hosted-run;
+      hostedVerdict = hosted-verdict;
+      hostedReport = hosted-report;
+      hosted = hosted-exists;
+      stopped = stopped-verdict;
       oneForAll = one-for-all;
       tallies = tallies-alike;
       trials = trials-exist;

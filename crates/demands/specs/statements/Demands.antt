@@ -1,4 +1,4 @@
--- The demands over streams and captures, all of them on one page: `proofs/Theorems` has a value of it.
+-- The demands over streams, captures and a host's calls, all of them on one page: `proofs/Theorems` has a value of it.
 -- Assumes nothing.
 use Rattle.demands.specs.statements.Return.{Return, UndamagedExist, OneFrame}
 use Rattle.demands.specs.statements.Trial.{FlipsCounted, RefusedExactly, TrialsExist}
@@ -6,9 +6,10 @@ use Rattle.demands.specs.statements.OneForAll.{OneForAll, TwoFlips}
 use Rattle.demands.specs.statements.Tallies.{TalliesAlike}
 use Rattle.demands.specs.statements.Verdict.{PassExactly, FailExactly, NotMeasuredExactly, ProgramSays, MeasuredOnce, ExaminationsExist, ArrivedAlways}
 use Rattle.demands.specs.statements.Verdict.{NeverPass, AllCounted, AlwaysCounted, StepNumbers}
+use Rattle.demands.specs.statements.Host.{HostedRun, HostedVerdict, HostedReport, HostedExists, StoppedVerdict}
 use Rattle.demands.specs.statements.ReedSolomon.{SpansExist, SpansLabel, CarriesExactly, ReedSolomonBound, FourPairs, OtherPlaces, OtherPairs}
 
--- the demands over streams and captures, sentence by sentence
+-- the demands over streams, captures and a host's calls, sentence by sentence
 pub record Demands : Type 0 where
   -- demand 1: by which numbers a record is refused in a run
   pub stepNumbers : StepNumbers
@@ -30,6 +31,13 @@ pub record Demands : Type 0 where
   pub arrived : ArrivedAlways
   pub allCounted : AllCounted
   pub alwaysCounted : AlwaysCounted
+  -- demand 2 for a host in C: its calls come to the capture's run, and so to its verdict and its report; there are such calls; and a run stopped is not
+  -- measured
+  pub hostedRun : HostedRun
+  pub hostedVerdict : HostedVerdict
+  pub hostedReport : HostedReport
+  pub hosted : HostedExists
+  pub stopped : StoppedVerdict
   -- demand 3, first half, through the account too; and that there are trials, what they are refused by, and what counts as a flip
   pub oneForAll : OneForAll
   pub tallies : TalliesAlike
