@@ -62,7 +62,7 @@ static PAIRS: [Pair; 4] = [
             },
             Table {
                 comment: "For byte b of place k of a remainder, at 256 k + b: its values at a and \
-                    at a^3 in the field of 128, a^7 = a^3 + 1, in seven bits each.",
+                    at a^3 in the field of 128, a^7 = a^3 + 1, in seven bits\neach, that at a^3 on top.",
                 name: "FIELD",
                 element: "u16",
                 length: 256 * PARITY_BITS as usize / 8,
@@ -72,8 +72,8 @@ static PAIRS: [Pair; 4] = [
             },
             Table {
                 comment: "For a^e of the field, 125 - e round 127, the place of the bit whose \
-                    value at a it is, and above it three times that round 127. \
-                    No bit has the value 0: 126.",
+                    value at a it is, and above it three times that round 127.\n\
+                    0 has the entry of place 126, which no bit has.",
                 name: "LOG",
                 element: "u16",
                 length: ROUND + 1,
@@ -82,8 +82,10 @@ static PAIRS: [Pair; 4] = [
                 line: 16,
             },
             Table {
-                comment: "By how much two places lie behind the place of their sum, in two halves \
-                    of seven bits; 0 where no two places do. Twice round 127.",
+                comment: "By how much two places lie behind the place of the sum of their values at a, in \
+                    two halves of seven bits; 0 where no two places do. At three times\n\
+                    the place of that sum less the place of the sum at a^3, and 127 more; \
+                    so it goes twice round 127.",
                 name: "RATIO",
                 element: "u16",
                 length: 2 * ROUND + 1,
@@ -101,7 +103,7 @@ static PAIRS: [Pair; 4] = [
                 line: 16,
             },
             Table {
-                comment: "The two numbers of the word whose only bit is bit i, at 2 i.",
+                comment: "The two numbers of the word whose only bit is bit i, at 2 i, the upper first.",
                 name: "BIT",
                 element: "u64",
                 length: 2 * WORD_BITS as usize,
@@ -138,7 +140,7 @@ static PAIRS: [Pair; 4] = [
             },
             Table {
                 comment: "Which bits of byte c of a block are exchanged with the partner lane, \
-                    at 5 e + c for the set of places named e.",
+                    at 5 e + c for the set of places named e, which has 2^s for place s.",
                 name: "MASKS",
                 element: "u8",
                 length: 16 * BLOCK_BYTES,
@@ -176,9 +178,8 @@ static PAIRS: [Pair; 4] = [
         lists: OF_PROOFS,
         tables: &[
             Table {
-                comment: "For each remainder of a symbol's number by 4, each lane of four and \
-                    each byte of four pairs of its bits: \
-                    what they put into the bytes of four symbols.",
+                comment: "What the byte b of four dibits of lane r, of four, puts into the bytes of symbols \
+                    l to l + 3, the first on top: at 1024 l + 256 r + b.",
                 name: "PARTS",
                 element: "u32",
                 length: 4 * 4 * 256,
@@ -187,8 +188,8 @@ static PAIRS: [Pair; 4] = [
                 line: 8,
             },
             Table {
-                comment: "For each remainder of a symbol's number by 4, and each symbol's byte: \
-                    the four lanes' pairs of bits, in fields of 16 bits.",
+                comment: "The four lanes' dibits in the byte x of symbol l, in fields of 16 bits, lane 0 on \
+                    top: at 256 l + x.",
                 name: "DIBITS",
                 element: "u64",
                 length: 4 * 256,
