@@ -1,4 +1,4 @@
--- A whole run by calls from C: whatever a host's calls come to that steps over the pieces of a capture, the theorem of the verdict speaks of it.
+-- The calls of a host in C over the pieces of a capture.
 -- Assumes nothing.
 use mathlib.Core.Path.{_≡_}
 use mathlib.Core.Logic.{_⊎_}
@@ -18,8 +18,7 @@ abbrev pub Gives : List ℕ → List ℕ → Type 0
 Gives bytes piece = (bytes ≡ piece) ⊎ (take (wanted bytes) bytes ≡ piece)
 
 -- The calls of a host over the capture s, as the contracts allow: `lr800_run_open`, then a `lr800_run_step` for each piece in its turn, to the last or to what
--- stops the run, with
--- one store of 2,880 bytes that may hold anything.
+-- stops the run, with one store of 2,880 bytes that may hold anything.
 pub record Hosted (s : List ℕ) (r : Run) : Type 0 where
   pub steps : ℕ
   pub given : ℕ → List ℕ

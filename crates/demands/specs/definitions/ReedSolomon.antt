@@ -1,4 +1,4 @@
--- Demand 3, second half: no Reed-Solomon codeword gets more wrong symbols than there are words carrying one of its symbols and hit by more than two flips.
+-- What the Reed-Solomon bound speaks of: codewords over spans, the words that carry them, wrong symbols (demand 3, second half).
 -- Assumes nothing.
 use mathlib.Core.Path.{_≡_}
 use mathlib.Core.Logic.{_≢_, _↔_}
@@ -17,7 +17,7 @@ use Rattle.demands.specs.definitions.Trial.{Trial, Accepted, flipsIn}
 abbrev pub Labels : Type 0
 Labels = ℕ → ℕ → ℕ
 
--- demand 3's words, of the symbols of n frames, 132 a lane and frame. Spans of 68 symbols begin anywhere: in lane p one begins before p symbols before the
+-- demand 3's words, of the symbols of n frames, 132 a lane and frame. Spans of 68 symbols begin anywhere: in lane p one begins `before p` symbols before the
 -- stream. Over a span two codewords alternate symbol by symbol; none of them is in two spans of a lane, or in a lane and its partner
 pub record Spans (n : ℕ) (before : ℕ → ℕ) (label : Labels) : Type 0 where
   pub alternate : (p s t : ℕ) → p < 32 → s < 132 * n → t < 132 * n → (s + before p) / 68 ≡ (t + before p) / 68 → (label p s ≡ label p t) ↔ (s % 2 ≡ t % 2)

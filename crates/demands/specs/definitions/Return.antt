@@ -1,4 +1,4 @@
--- Demand 2: an undamaged stream from fresh states comes back 36 blocks later in every lane, behind 36 blocks of zeros, whole but for the last 36 blocks.
+-- A stream sent and received undamaged (demand 2).
 -- Assumes nothing.
 use mathlib.Core.Path.{_≡_}
 use mathlib.Core.List.{List}

@@ -1,4 +1,4 @@
--- Demand 3 through the account: equal accounts and equal frame numbers give equal entries, call by call.
+-- What becomes of each frame in the account, call by call (demand 3).
 -- Assumes nothing.
 use mathlib.Core.Bool.{cond}
 use mathlib.Core.List.{List}

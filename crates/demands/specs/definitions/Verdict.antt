@@ -1,5 +1,5 @@
--- Demand 2: PASS is given exactly if the frames ordered, at least one, and no others were measured, no record was refused, no second order came, and flagged
--- words keep within the allowance. Over every byte string, for the walk over the whole and for the walk record by record, and carried to the report's text.
+-- What the theorems of the verdict speak of (demand 2): a measured capture and its run, an examination and its report, a line of a text, a capture as it may
+-- come.
 -- Assumes nothing.
 use mathlib.Core.Path.{_≡_}
 use mathlib.Core.Bool.{true, cond}
@@ -62,8 +62,7 @@ measuredRun m =
             words = record {
               clean = wordsIn 0 (m .frames) (m .asked);
               one = wordsIn 1 (m .frames) (m .asked);
-              two = wordsIn 2 (m .frames)
-                  (m .asked);
+              two = wordsIn 2 (m .frames) (m .asked);
               flagged = wordsIn 3 (m .frames) (m .asked);
             };
           };

@@ -1,4 +1,5 @@
 -- Demand 3, first half: one test pattern speaks for all. And demand 2 over a stream: at most two flips in a word are mended.
+-- `proofs/OneForAll` proves both.
 -- Assumes nothing.
 use mathlib.Core.Path.{_≡_}
 use mathlib.Core.Logic.{_↔_}

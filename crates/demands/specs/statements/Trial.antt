@@ -1,4 +1,4 @@
--- Of the trials of demand 3: what a flip is, what a call is refused by, and that there are trials; `proofs/Trial` and `proofs/Hit` prove them.
+-- Of the trials of demand 3: what a flip is, what a call is refused by, and that there are trials; `proofs/Trial` proves each.
 -- Assumes nothing.
 use mathlib.Core.Path.{_≡_}
 use mathlib.Core.Bool.{cond}

@@ -31,8 +31,7 @@ abbrev pub NotMeasuredExactly : Type 0
 NotMeasuredExactly = (s report : List ℕ) → AllBytes s → Examination s report → Line "verdict NOT MEASURED" report ↔ (Measured s → ⊥)
 
 -- The program: the run that it comes to over the bytes s is examined as above; and where a read failed, whatever went before it, the report says NOT MEASURED.
--- That
--- s is what the input brought is read off the program and no theorem (docs/TRUST.md)
+-- That s is what the input brought is read off the program and no theorem (docs/TRUST.md)
 abbrev pub ProgramSays : Type 0
 ProgramSays = (s : List ℕ) → Examination s (text (followed s false)) × Line "verdict NOT MEASURED" (text (followed s true))
 
@@ -71,8 +70,7 @@ pub record NeverPass : Type 0 where
       → (k : ℕ) → k < a .n → locks (a .frames k) 0 ≡ false → Line "verdict PASS" report → ⊥
 
 -- For the examiner: PASS means that every ordered frame's 384 words were counted. The report is that of as many frames accepted as asked for, none missing, and
--- the
--- words with each flag over all of them
+-- the words with each flag over all of them
 abbrev pub AllCounted : Type 0
 AllCounted =
     (s report : List ℕ) → AllBytes s → Examination s report → Line "verdict PASS" report
