@@ -1,16 +1,21 @@
--- What an entry that is not refused tells: its cases the other way round.
+-- When an entry is accepted: nothing refuses it. What one that is accepted tells, and that such a one is accepted.
 -- Assumes nothing.
-use mathlib.Core.Path.{_≡_, refl, sym, ap, _∙_}
-use mathlib.Core.Bool.{Bool, true, false}
+use mathlib.Core.Path.{_≡_, refl}
+use mathlib.Core.Bool.{Bool, true, false, cond}
 use Prim.Native.Nat.{ℕ}
 use native.Mathlib.Omega.{arith}
 use lib.Dec.{eqb}
-use borrow.Author.Tests.{eqb-true}
-use Rattle.account.specs.definitions.Account.{total, due, ahead, late, over, withFrame, withLoss, frameEntered, lossEntered}
+use borrow.Author.Tests.{eq-eqb, eqb-true}
+use Rattle.account.specs.definitions.Account.{total, due, ahead, late, grown, over, withFrame, withLoss, frameEntered, lossEntered}
 use Rattle.account.specs.declared.Account.{Account}
-use Rattle.account.specs.declared.Entry.{Entry}
 use Rattle.account.specs.declared.Tallies.{Tallies}
-use Rattle.account.proofs.Entered.{frame-late, frame-over, frame-short, loss-late, loss-over}
+
+-- nothing refuses: neither late nor above a limit, and of the words due
+pub none-refuses : (l o r : Bool) → _≡_ {A = ℕ} (cond l 10 (cond o 11 (cond r 0 12))) 0 → (l ≡ false) × (o ≡ false) × (r ≡ true)
+none-refuses true o r e = absurd (omega arith)
+none-refuses false true r e = absurd (omega arith)
+none-refuses false false true e = (refl, refl, refl)
+none-refuses false false false e = absurd (omega arith)
 
 -- a frame that was entered: in time, within the limits, with the words due, and the account is the one with it
 pub record FrameTaken (a : Account) (got : ℕ) (t : Tallies) : Type 0 where
@@ -26,24 +31,19 @@ pub record LossTaken (a : Account) (got : ℕ) : Type 0 where
   pub taken : lossEntered a got .account ≡ withLoss a got
 
 module _ (a : Account) (got : ℕ) where
-  refused : (n : ℕ) (e : Entry) → e .refusal ≡ 0 → record { refusal = n; account = a } ≡ e → n ≡ 0
-  refused n e z h = ap (λ (x : Entry). x .refusal) h ∙ z
-
   pub frame-taken : (t : Tallies) → frameEntered a got t .refusal ≡ 0 → FrameTaken a got t
-  unfolding frameEntered over
-  frame-taken t z = go (late (ahead got (a .expected))) (over (withFrame a got t)) (eqb (total t) (due a got)) refl refl refl
-    where
-      go : (x y w : Bool) → late (ahead got (a .expected)) ≡ x → over (withFrame a got t) ≡ y → eqb (total t) (due a got) ≡ w → FrameTaken a got t
-      go true y w e f g = absurd (let n : _≡_ {A = ℕ} 10 0 = refused 10 (frameEntered a got t) z (frame-late a got (ahead got (a .expected)) refl t e) in omega arith)
-      go false true w e f g = absurd (let n : _≡_ {A = ℕ} 11 0 = refused 11 (frameEntered a got t) z (frame-over a got (ahead got (a .expected)) refl t e true (sym f) refl) in omega arith)
-      go false false false e f g = absurd (let n : _≡_ {A = ℕ} 12 0 = refused 12 (frameEntered a got t) z (frame-short a got (ahead got (a .expected)) refl t e false false (sym f) refl (sym g) refl) in omega arith)
-      go false false true e f g = record { in-time = e; within = f; all-due = eqb-true (total t) (due a got) g; taken = rw z refl }
+  unfolding frameEntered
+  frame-taken t z =
+      let n = none-refuses (late (ahead got (a .expected))) (over (withFrame a got t)) (eqb (total t) (due a got)) z in
+      record { in-time = n .0; within = n .1; all-due = eqb-true (total t) (due a got) (n .2); taken = rw z refl }
 
   pub loss-taken : lossEntered a got .refusal ≡ 0 → LossTaken a got
-  unfolding lossEntered over
-  loss-taken z = go (late (ahead got (a .expected))) (over (withLoss a got)) refl refl
-    where
-      go : (x y : Bool) → late (ahead got (a .expected)) ≡ x → over (withLoss a got) ≡ y → LossTaken a got
-      go true y e f = absurd (let n : _≡_ {A = ℕ} 10 0 = refused 10 (lossEntered a got) z (loss-late a got (ahead got (a .expected)) refl e) in omega arith)
-      go false true e f = absurd (let n : _≡_ {A = ℕ} 11 0 = refused 11 (lossEntered a got) z (loss-over a got (ahead got (a .expected)) refl e true (sym f) refl) in omega arith)
-      go false false e f = record { in-time = e; within = f; taken = rw z refl }
+  unfolding lossEntered
+  loss-taken z =
+      let n = none-refuses (late (ahead got (a .expected))) (over (withLoss a got)) true z in record { in-time = n .0; within = n .1; taken = rw z refl }
+
+  -- the other way round
+  pub frame-done : (t : Tallies) (d : ℕ) → d ≡ ahead got (a .expected) → late d ≡ false → over (grown a got 1 d t) ≡ false → total t ≡ due a got
+      → record { refusal = 0; account = grown a got 1 d t } ≡ frameEntered a got t
+  unfolding frameEntered
+  frame-done t d e l o w = rw (← e, l, o, eq-eqb (total t) (due a got) w) refl

@@ -1,6 +1,5 @@
 pub mod Sums
 pub mod Limits
-pub mod Entered
 pub mod AcceptedEntry
 pub mod VerdictMeaning
 pub mod Kept

@@ -1,10 +1,10 @@
--- A verdict from the tests that it makes.
+-- A verdict from the tests that it makes, and what each verdict means.
 -- Assumes nothing.
 use mathlib.Core.Path.{_≡_, refl, sym, ap, _∙_}
 use mathlib.Core.Bool.{Bool, true, false, cond, not, _&&_, false≢true}
 use mathlib.Core.Logic.{_≢_}
 use Prim.Native.Nat.{ℕ, _*_, _≤_, _<_}
-use native.Mathlib.Decide.{decLe}
+use native.Mathlib.Decide.{decLe, ℕ-discrete}
 use native.Mathlib.Omega.{arith}
 use lib.Dec.{eqb, ltb, leb}
 use borrow.Author.Tests.{lt-ltb, ltb-true, eq-eqb, eqb-true, ne-eqb, le-leb, lt-leb}
@@ -13,27 +13,15 @@ use Rattle.account.specs.declared.Account.{Account}
 use Rattle.account.specs.declared.Verdict.{Verdict}
 use Rattle.account.specs.declared.Verdict.the-variants.{NotMeasured, Pass, Fail}
 
-module _ (asked : ℕ) (a : Account) where
-  pub none-asked : asked ≡ 0 → false ≡ measured asked a
-  unfolding measured
-  none-asked e = rw e refl
-
-  module _ (some : asked ≡ 0 → ⊥) where
-    at-least-one : 0 < asked
-    at-least-one = omega arith
-
-    pub not-accepted : (a .accepted ≡ asked → ⊥) → false ≡ measured asked a
-    unfolding measured
-    not-accepted n = rw (lt-ltb 0 asked at-least-one, ne-eqb (a .accepted) asked n) refl
-
-    module _ (all : a .accepted ≡ asked) where
-      pub some-missing : (a .missing ≡ 0 → ⊥) → false ≡ measured asked a
-      unfolding measured
-      some-missing n = rw (lt-ltb 0 asked at-least-one, eq-eqb (a .accepted) asked all, ne-eqb (a .missing) 0 n) refl
-
-      pub right-total : a .missing ≡ 0 → (b : Bool) → b ≡ eqb (total (a .words)) (384 * asked) → b ≡ measured asked a
-      unfolding measured
-      right-total z b e = rw (lt-ltb 0 asked at-least-one, eq-eqb (a .accepted) asked all, eq-eqb (a .missing) 0 z) (e ∙ ap (λ (n : ℕ). eqb (total (a .words)) (384 * n)) (sym all))
+-- the right total is that of the frames accepted; where as many are accepted as asked, it is that of the frames asked
+pub right-total : (asked : ℕ) (a : Account) (right : Bool) → right ≡ eqb (total (a .words)) (384 * asked)
+    → (ltb 0 asked && (eqb (a .accepted) asked && (eqb (a .missing) 0 && right))) ≡ measured asked a
+unfolding measured
+right-total asked a right e = go (ℕ-discrete (a .accepted) asked)
+  where
+    go : Dec (a .accepted ≡ asked) → (ltb 0 asked && (eqb (a .accepted) asked && (eqb (a .missing) 0 && right))) ≡ measured asked a
+    go (yes h) = rw (e, ← h) refl
+    go (no h) = rw (ne-eqb (a .accepted) asked h) refl
 
 module _ (asked allowed : ℕ) (a : Account) (stopped : Bool) where
   pub stopped-run : stopped ≡ true → NotMeasured ≡ verdict asked allowed a stopped
@@ -75,8 +63,8 @@ measured-means asked a e =
     record { some = ltb-true 0 asked (p .0); all = eqb-true _ _ (q .0); none-missing = eqb-true _ _ (r .0); right = eqb-true _ _ (r .1) }
 
 pub measured-by : (asked : ℕ) (a : Account) → MeasuredNumbers asked a → true ≡ measured asked a
-measured-by asked a M =
-    right-total asked a (let h = M .some in λ (z : asked ≡ 0). omega arith) (M .all) (M .none-missing) true (sym (eq-eqb (total (a .words)) (384 * asked) (M .right ∙ ap (λ (n : ℕ). 384 * n) (M .all))))
+unfolding measured
+measured-by asked a M = rw (lt-ltb 0 asked (M .some), eq-eqb _ _ (M .all), eq-eqb _ _ (M .none-missing), eq-eqb _ _ (M .right)) refl
 
 -- PASS and FAIL say that the run went on and was measured, and the allowance tells one from the other
 pub judged : (asked allowed : ℕ) (a : Account) (stopped : Bool) (v : Verdict) → verdict asked allowed a stopped ≡ v → verdictNumber v ≢ 0
@@ -84,7 +72,8 @@ pub judged : (asked allowed : ℕ) (a : Account) (stopped : Bool) (v : Verdict) 
 unfolding verdict verdictNumber
 judged asked allowed a stopped v e n = go stopped (measured asked a) refl refl
   where
-    go : (x y : Bool) → stopped ≡ x → measured asked a ≡ y → (stopped ≡ false) × (measured asked a ≡ true) × (cond (leb (a .words .flagged) allowed) Pass Fail ≡ v)
+    go : (x y : Bool) → stopped ≡ x → measured asked a ≡ y → (stopped ≡ false) × (measured asked a ≡ true)
+        × (cond (leb (a .words .flagged) allowed) Pass Fail ≡ v)
     go true y p q = absurd (n (ap verdictNumber (sym e ∙ sym (stopped-run asked allowed a stopped p))))
     go false false p q = absurd (n (ap verdictNumber (sym e ∙ sym (not-measured asked allowed a stopped p false (sym q) refl))))
     go false true p q = (p, q, sym (λ i. cond (not (p i) && q i) (cond (leb (a .words .flagged) allowed) Pass Fail) NotMeasured) ∙ e)

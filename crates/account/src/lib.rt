@@ -5,7 +5,8 @@ ghost use Prim.Native.Nat.{_+_, _^_, _<_, _≤_};
 ghost use lib.Dec.{eqb, ltb};
 ghost use lib.ListN.{length, getD};
 ghost use Rattle.bits.specs.definitions.Bits.{count};
-ghost use Rattle.account.specs.definitions.Account.{tallyLimit, talliesOf, ahead, late, opened, total, added, grown, over, frameEntered, lossEntered, measured, verdict, verdictNumber};
+ghost use Rattle.account.specs.definitions.Account.{tallyLimit, talliesOf, ahead, late, opened, total, added, grown, framesOver, wordsOver, over, answer};
+ghost use Rattle.account.specs.definitions.Account.{frameEntered, lossEntered, measured, verdict, verdictNumber};
 
 // How many words had 0, 1 or 2 bits mended, or were flagged.
 #[repr(C)]
@@ -117,23 +118,6 @@ fn ahead(got: u32, expected: u32) -> u32
     std::num::wrapping_sub_u32(got, expected)
 }
 
-// Half the way round or more is late.
-fn late(d: u32) -> bool
-    ensures { λ r. ⌜ r ≡ late d ⌝ }
-{
-    d >= HALF
-}
-
-// A refused entry: the account as it was.
-fn refused(n: u32, a: Account) -> Entry
-    ensures { λ r. ⌜ r ≡ record { refusal = n; account = a } ⌝ }
-{
-    Entry {
-        refusal: n,
-        account: a,
-    }
-}
-
 // Whether x + y is above the limit, with no sum that could wrap.
 fn exceeds(x: u64, y: u64, limit: u64) -> bool
     ensures { λ r. ⌜ r ≡ ltb limit (x + y) ⌝ }
@@ -162,32 +146,35 @@ fn adds_up(t: Tallies, n: u64) -> bool
     b - t.two == t.flagged
 }
 
+// Whether a limit on frames is passed once so many are accepted and missing more.
+fn frames_over(a: Account, accepted: u64, missing: u64) -> bool
+    ensures { λ r. ⌜ r ≡ framesOver (a .accepted + accepted) (a .missing + missing) ⌝ }
+{
+    exceeds(a.accepted, accepted, FRAME_LIMIT) | exceeds(a.missing, missing, FRAME_LIMIT)
+}
+
+// Whether the limit on a tally is passed once these are added.
+fn words_over(w: Tallies, t: Tallies) -> bool
+    ensures { λ r. ⌜ r ≡ wordsOver (added w t) ⌝ }
+{
+    let clean = exceeds(w.clean, t.clean, TALLY_LIMIT);
+    let one = exceeds(w.one, t.one, TALLY_LIMIT);
+    let two = exceeds(w.two, t.two, TALLY_LIMIT);
+    let flagged = exceeds(w.flagged, t.flagged, TALLY_LIMIT);
+    clean | (one | (two | flagged))
+}
+
 // Whether a limit is passed once so many frames are accepted and missing more, with these tallies.
 fn over(a: Account, accepted: u64, missing: u64, t: Tallies) -> bool
     ensures { λ r. ⌜ r ≡ over (grown a (a .expected) accepted missing t) ⌝ }
 {
-    let w = a.words;
-    if exceeds(a.accepted, accepted, FRAME_LIMIT) {
-        return true;
-    }
-    if exceeds(a.missing, missing, FRAME_LIMIT) {
-        return true;
-    }
-    if exceeds(w.clean, t.clean, TALLY_LIMIT) {
-        return true;
-    }
-    if exceeds(w.one, t.one, TALLY_LIMIT) {
-        return true;
-    }
-    if exceeds(w.two, t.two, TALLY_LIMIT) {
-        return true;
-    }
-    exceeds(w.flagged, t.flagged, TALLY_LIMIT)
+    frames_over(a, accepted, missing) | words_over(a.words, t)
 }
 
 // The tallies of both, where no limit is passed.
 fn added(w: Tallies, t: Tallies) -> Tallies
-    requires { ⌜ (w .clean + t .clean ≤ tallyLimit) × (w .one + t .one ≤ tallyLimit) × (w .two + t .two ≤ tallyLimit) × (w .flagged + t .flagged ≤ tallyLimit) ⌝ }
+    requires { ⌜ (w .clean + t .clean ≤ tallyLimit) × (w .one + t .one ≤ tallyLimit) × (w .two + t .two ≤ tallyLimit)
+        × (w .flagged + t .flagged ≤ tallyLimit) ⌝ }
     ensures { λ r. ⌜ r ≡ added w t ⌝ }
 {
     Tallies {
@@ -212,26 +199,48 @@ fn grown(a: Account, got: u32, accepted: u64, missing: u64, t: Tallies) -> Accou
     }
 }
 
+// By which number an entry is refused whose number lies d after the expected one: 10 half the way round or more, which is late; then 11, then 12; 0 by none.
+fn refusal_of(d: u32, over: bool, right: bool) -> u32
+    ensures { λ r. ⌜ r ≡ cond (late d) 10 (cond over 11 (cond right 0 12)) ⌝ }
+{
+    if d >= HALF {
+        return 10;
+    }
+    if over {
+        return 11;
+    }
+    if right {
+        return 0;
+    }
+    12
+}
+
+// An entry refused by the number n leaves the account as it was; where n is 0, the frame numbered got is entered.
+fn entered(n: u32, a: Account, got: u32, accepted: u64, missing: u64, t: Tallies) -> Entry
+    requires { ⌜ (n ≡ 0 → over (grown a (a .expected) accepted missing t) ≡ false) ⌝ }
+    ensures { λ r. ⌜ r ≡ answer n (grown a got accepted missing t) a ⌝ }
+{
+    if n != 0 {
+        return Entry {
+            refusal: n,
+            account: a,
+        };
+    }
+    let b = grown(a, got, accepted, missing, t);
+    Entry {
+        refusal: 0,
+        account: b,
+    }
+}
+
 // A frame with its tallies. Refused: 10 late, 11 a limit is passed, 12 the tallies are not of the words due.
 pub fn enter(a: Account, got: u32, t: Tallies) -> Entry
     ensures { λ r. ⌜ r ≡ frameEntered a got t ⌝ }
 {
     let d = ahead(got, a.expected);
-    if late(d) {
-        return refused(10, a);
-    }
     let m = bits::wide32(d);
-    if over(a, 1, m, t) {
-        return refused(11, a);
-    }
-    if !adds_up(t, DUE) {
-        return refused(12, a);
-    }
-    let b = grown(a, got, 1, m, t);
-    Entry {
-        refusal: 0,
-        account: b,
-    }
+    let n = refusal_of(d, over(a, 1, m, t), adds_up(t, DUE));
+    entered(n, a, got, 1, m, t)
 }
 
 // A loss, a frame without lock: it and the frames before it are missing. Refused: 10 late, 11 a limit is passed.
@@ -239,9 +248,6 @@ pub fn lose(a: Account, got: u32) -> Entry
     ensures { λ r. ⌜ r ≡ lossEntered a got ⌝ }
 {
     let d = ahead(got, a.expected);
-    if late(d) {
-        return refused(10, a);
-    }
     let m = bits::wide32(d) + 1;
     let t = Tallies {
         clean: 0,
@@ -249,14 +255,8 @@ pub fn lose(a: Account, got: u32) -> Entry
         two: 0,
         flagged: 0,
     };
-    if over(a, 0, m, t) {
-        return refused(11, a);
-    }
-    let b = grown(a, got, 0, m, t);
-    Entry {
-        refusal: 0,
-        account: b,
-    }
+    let n = refusal_of(d, over(a, 0, m, t), true);
+    entered(n, a, got, 0, m, t)
 }
 
 // Whether what was asked, all of it and nothing else, was measured.
@@ -264,16 +264,8 @@ fn measured(asked: u64, a: Account) -> bool
     requires { ⌜ asked < 2 ^ 32 ⌝ }
     ensures { λ r. ⌜ r ≡ measured asked a ⌝ }
 {
-    if asked == 0 {
-        return false;
-    }
-    if a.accepted != asked {
-        return false;
-    }
-    if a.missing != 0 {
-        return false;
-    }
-    adds_up(a.words, TALLIED * asked)
+    let right = adds_up(a.words, TALLIED * asked);
+    (0 < asked) & ((a.accepted == asked) & ((a.missing == 0) & right))
 }
 
 // The verdict on numbers, and on whether the run was stopped.

@@ -26,7 +26,8 @@ module _ (a : Account) (got : ℕ) (flags : List ℕ) where
   flags-refused ne = rw (ne-eqb _ _ ne) refl
 
   -- the bytes are copied over 384 others
-  pub flags-taken : length flags ≡ 384 → (own zeros : List ℕ) → own ≡ copied flags zeros → length zeros ≡ 384 → (t : Tallies) → t ≡ talliesOf a got own → (e : Entry) → e ≡ frameEntered a got t → e ≡ flagsEntered a got flags
+  pub flags-taken : length flags ≡ 384 → (own zeros : List ℕ) → own ≡ copied flags zeros → length zeros ≡ 384 → (t : Tallies) → t ≡ talliesOf a got own
+      → (e : Entry) → e ≡ frameEntered a got t → e ≡ flagsEntered a got flags
   unfolding flagsEntered
   flags-taken l own zeros c z t h e k = rw (eq-eqb _ _ l) (k ∙ ap (frameEntered a got) (h ∙ ap (talliesOf a got) (c ∙ copied-all flags zeros (l ∙ sym z))))
 
@@ -37,7 +38,8 @@ module _ (r : Run) (s piece : List ℕ) where
 
   -- the store is copied over 2,880 other bytes, and what the step leaves of them is copied back
   pub step-done : length s ≡ 2880 → (own zeros : List ℕ) → own ≡ copied s zeros → length zeros ≡ 2880 → (b : Bench) → b ≡ runOf r
-      → (a : Stepped) (own′ : List ℕ) → (record { run = a .run; store = own′ } ≡ stepped (record { run = b; store = own }) piece) × (a .refusal ≡ stepRefusal (record { run = b; store = own }) piece)
+      → (a : Stepped) (own′ : List ℕ) → (record { run = a .run; store = own′ } ≡ stepped (record { run = b; store = own }) piece)
+      × (a .refusal ≡ stepRefusal (record { run = b; store = own }) piece)
       → length own′ ≡ 2880 → (r′ : Run) (s′ : List ℕ) → r′ ≡ keptRun (a .run) → s′ ≡ copied own′ s → Steps r s piece (a .refusal) r′ s′
   step-done l own zeros c z b hb a own′ h l′ r′ s′ k d =
       let same : record { run = b; store = own } ≡ stateOf r s = rw (hb, c, copied-all s zeros (l ∙ sym z)) refl in

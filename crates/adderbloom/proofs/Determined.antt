@@ -41,7 +41,8 @@ pub send-determined : Fixes 3 send-kinds.ps send-kinds.r send-reads.Post (λ κs
 send-determined κs a x y s t p q = (p .number ∙ sym (q .number), (p .store ∙ sym (q .store), p .output ∙ sym (q .output)))
 
 -- the number, and the store, the output and the flags at exit
-pub receive-determined : Fixes 4 receive-kinds.ps receive-kinds.r receive-reads.Post (λ κs s t. (now (s .1 .0) ≡ now (t .1 .0)) × (now (s .1 .1 .0) ≡ now (t .1 .1 .0)) × (now (s .1 .1 .1 .0) ≡ now (t .1 .1 .1 .0)))
+pub receive-determined : Fixes 4 receive-kinds.ps receive-kinds.r receive-reads.Post (λ κs s t. (now (s .1 .0) ≡ now (t .1 .0))
+    × (now (s .1 .1 .0) ≡ now (t .1 .1 .0)) × (now (s .1 .1 .1 .0) ≡ now (t .1 .1 .1 .0)))
 receive-determined κs a x y s t p q = (p .number ∙ sym (q .number), (p .store ∙ sym (q .store), p .output ∙ sym (q .output), p .flags ∙ sym (q .flags)))
 
 pub verdict-determined : Fixes 0 verdict-kinds.ps verdict-kinds.r verdict-reads.Post (λ κs s t. Unit)
@@ -73,8 +74,11 @@ module _ {M : Type 1} (𝓤 : URA M) (H : Heap 𝓤) (A : Atoms 𝓤) (mem : Mem
 
   -- the number, and the account at exit
   pub account-enter-determined : FixesSaid 𝓤 account-enter.ended (account-enter.clauses 𝓤 H A mem run) (λ κs x y s t. (x ≡ y) × (now (s .0) ≡ now (t .0)))
-  account-enter-determined κs a g =
-      ((λ r s. record { refusal = r; account = now (s .0) } ≡ flagsEntered (now (a .0)) (a .1 .0) (now (a .1 .1 .0))), (λ x s. refl), (λ x y s t p q. parts _ _ (p ∙ sym q)))
+  account-enter-determined κs a g = (
+    (λ r s. record { refusal = r; account = now (s .0) } ≡ flagsEntered (now (a .0)) (a .1 .0) (now (a .1 .1 .0))),
+    (λ x s. refl),
+    (λ x y s t p q. parts _ _ (p ∙ sym q)),
+  )
 
   pub account-lose-determined : FixesSaid 𝓤 account-lose.ended (account-lose.clauses 𝓤 H A mem run) (λ κs x y s t. (x ≡ y) × (now (s .0) ≡ now (t .0)))
   account-lose-determined κs a g =
@@ -88,7 +92,8 @@ module _ {M : Type 1} (𝓤 : URA M) (H : Heap 𝓤) (A : Atoms 𝓤) (mem : Mem
   run-stop-determined κs a g = ((λ r s. now (s .0) ≡ keptRun (stopped (runOf (now (a .0))))), (λ x s. refl), (λ x y s t p q. (refl, p ∙ sym q)))
 
   -- the number, and the run and the store at exit
-  pub run-step-determined : FixesSaid 𝓤 run-step.ended (run-step.clauses 𝓤 H A mem run) (λ κs x y s t. (x ≡ y) × (now (s .0) ≡ now (t .0)) × (now (s .1 .0) ≡ now (t .1 .0)))
+  pub run-step-determined : FixesSaid 𝓤 run-step.ended (run-step.clauses 𝓤 H A mem run) (λ κs x y s t. (x ≡ y) × (now (s .0) ≡ now (t .0))
+      × (now (s .1 .0) ≡ now (t .1 .0)))
   run-step-determined κs a g = (
     (λ r s. Steps (now (a .0)) (now (a .1 .0)) (now (a .1 .1 .0)) r (now (s .0)) (now (s .1 .0))),
     (λ x s. refl),

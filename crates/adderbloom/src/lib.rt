@@ -27,7 +27,8 @@ pub extern "C" fn lr800_receive(
     output: &mut [u8],
     flags: &mut [u8],
 ) -> u32
-    ensures { λ r. ⌜ Receives base (now (input .entry)) (now (store .entry)) (now (output .entry)) (now (flags .entry)) r (now (store .exit)) (now (output .exit)) (now (flags .exit)) ⌝ }
+    ensures { λ r. ⌜ Receives base (now (input .entry)) (now (store .entry)) (now (output .entry)) (now (flags .entry))
+        r (now (store .exit)) (now (output .exit)) (now (flags .exit)) ⌝ }
 {
     framing::receive(input, store, output, flags)
 }
@@ -45,7 +46,12 @@ pub extern "C" fn lr800_verdict(
     flagged: u64,
     stopped: u32,
 ) -> u32
-    ensures { λ r. ⌜ r ≡ verdictNumber (verdict asked allowed (record { expected = 0; accepted = accepted; missing = missing; words = record { clean = clean; one = one; two = two; flagged = flagged } }) (not (eqb stopped 0))) ⌝ }
+    ensures { λ r. ⌜ r ≡ verdictNumber (verdict asked allowed (record {
+      expected = 0;
+      accepted = accepted;
+      missing = missing;
+      words = record { clean = clean; one = one; two = two; flagged = flagged };
+    }) (not (eqb stopped 0))) ⌝ }
 {
     let words = account::Tallies {
         clean,

@@ -123,8 +123,8 @@ pub extern "C" fn lr800_run_open(r: &mut Run)
     *r = opened();
 }
 
-// One record's bytes, and what they change of the run and the store lent beside it. Refused: 2 another length of the store, which changes nothing; 6 to 11 a record or its
-// entry, which stops the run.
+// One record's bytes, and what they change of the run and the store lent beside it. Refused: 2 another length of the store, which changes nothing;
+// 6 to 11 a record or its entry, which stops the run.
 #[no_mangle]
 pub extern "C" fn lr800_run_step(r: &mut Run, store: &mut [u8], piece: &[u8]) -> u32
     ensures { λ n. ⌜ Steps (now (r .entry)) (now (store .entry)) (now (piece .entry)) n (now (r .exit)) (now (store .exit)) ⌝ }

@@ -3,7 +3,8 @@
 use mathlib.Core.Path.{_≡_, refl, sym, ap, ap₂, _∙_, subst}
 use mathlib.Core.Logic.{_⊎_, inl, inr}
 use Prim.Native.Nat.{ℕ, zero, suc, _+_, _-_, _*_, _/_, _%_, _^_, _<_, _≤_}
-use native.Mathlib.Nat.{mod-lt, add-zero, zero-add, zero-mul, add-suc, suc-add, pow-suc, div-add-mod', div-div-eq-div-mul, div-eq-of-lt, div-one, mul-comm, mul-div-cancel, mul-mod-left}
+use native.Mathlib.Nat.{mod-lt, add-zero, zero-add, zero-mul, add-suc, suc-add, pow-suc, div-add-mod', div-div-eq-div-mul, div-eq-of-lt, div-one, mul-comm}
+use native.Mathlib.Nat.{mul-div-cancel, mul-mod-left}
 use native.Mathlib.Numerals.{add-one}
 use native.Mathlib.Omega.{arith}
 use lib.Arith.{digits-div, digits-mod, lt-one}

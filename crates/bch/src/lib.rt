@@ -50,11 +50,12 @@ fn encode_words(words: &mut [u64])
 {
     let mut i: usize = 0;
     while i < 384 {
-        let hi = words[2 * i];
-        let lo = words[2 * i + 1];
+        let at = 2 * i;
+        let hi = words[at];
+        let lo = words[at + 1];
         let p = parity(hi, lo);
-        words[2 * i] = hi % bits::TWO_62;
-        words[2 * i + 1] = lo / 65536 * 65536 + p;
+        words[at] = hi % bits::TWO_62;
+        words[at + 1] = lo / 65536 * 65536 + p;
         i += 1;
     }
 }

@@ -19,8 +19,11 @@ use Rattle.bench.proofs.verdict_of.Reads as verdict-of-reads
 
 -- the number, the run, and the store at exit
 pub step-determined : Fixes 2 step-kinds.ps step-kinds.r step-reads.Post (λ κs s t. now (s .1 .0) ≡ now (t .1 .0))
-step-determined κs a x y s t p q =
-    ((λ i. record { refusal = (p .1 ∙ sym (q .1)) i; run = ap (λ (z : State). z .run) (p .0 ∙ sym (q .0)) i }), ap (λ (z : State). z .store) (p .0 ∙ sym (q .0)))
+step-determined κs a x y s t p q = (
+  (λ i. record { refusal = (p .1 ∙ sym (q .1)) i; run = ap (λ (z : State). z .run) (p .0 ∙ sym (q .0)) i }),
+  ap (λ (z : State). z .store)
+      (p .0 ∙ sym (q .0)),
+)
 
 -- a run, a test, a verdict
 pub begun-determined : Fixes 0 begun-kinds.ps begun-kinds.r begun-reads.Post (λ κs s t. Unit)

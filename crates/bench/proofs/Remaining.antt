@@ -44,7 +44,8 @@ loss-less : (a : Account) (got : ℕ) → lossEntered a got .refusal ≡ 0 → r
 loss-less a got z = let T = loss-taken a got z in let u = under _ (T .within) in rw (T .taken) (let x = u .0 in let y = u .1 in omega arith)
 
 module _ (st : State) where
-  noted-less : (e : Entry) (s : List ℕ) → (e .refusal ≡ 0 → room (e .account) < room (st .run .account)) → remainingOf (noted st e s .run) < 1 + room (st .run .account)
+  noted-less : (e : Entry) (s : List ℕ) → (e .refusal ≡ 0 → room (e .account) < room (st .run .account))
+      → remainingOf (noted st e s .run) < 1 + room (st .run .account)
   unfolding remaining
   noted-less e s h = go (ℕ-discrete (e .refusal) 0)
     where
@@ -57,7 +58,9 @@ module _ (st : State) where
   framed-less got f = go (locks f 0) refl
     where
       go : (l : Bool) → locks f 0 ≡ l → remainingOf (framed st got f .run) < 1 + room (st .run .account)
-      go true e = rw e (noted-less (frameEntered (st .run .account) got (talliesOf (st .run .account) got (receivedFlags f))) (receivedStore f (st .store)) (frame-less (st .run .account) got (talliesOf (st .run .account) got (receivedFlags f))))
+      go true e =
+          rw e (noted-less (frameEntered (st .run .account) got (talliesOf (st .run .account) got (receivedFlags f))) (receivedStore f (st .store))
+          (frame-less (st .run .account) got (talliesOf (st .run .account) got (receivedFlags f))))
       go false e = rw e (noted-less (lossEntered (st .run .account) got) (st .store) (loss-less (st .run .account) got))
 
   halted-less : (p : Phase) → st .run .phase ≡ p → p ≢ Stopped → remainingOf (halted p (st .run)) < remaining p (st .run .account)

@@ -16,13 +16,15 @@ use Rattle.capture.proofs.Found.{Stands, stands}
 use Rattle.bench.specs.declared.Phase.{Phase}
 use Rattle.bench.specs.declared.Phase.the-variants.{Unordered, Going, Stopped}
 use Rattle.bench.proofs.Walk.{came-stays}
-use Rattle.bench.specs.definitions.Run.{State, stopped, isStopped, afterEntry, noted, entryOf, framed, orderCame, frameCame, frameRefusal, halted, cameAs, refusalOf, stepped, stepRefusal, unnumbered}
+use Rattle.bench.specs.definitions.Run.{State, stopped, isStopped, afterEntry, noted, entryOf, framed, orderCame, frameCame, frameRefusal, halted, cameAs}
+use Rattle.bench.specs.definitions.Run.{refusalOf, stepped, stepRefusal, unnumbered}
 use Rattle.bench.specs.statements.Run.{StopsExactly, OnlyStops, StoppedStays}
 
 noted-refused : (st : State) (e : Entry) (s : List ℕ) → e .refusal ≢ 0 → noted st e s ≡ record { run = stopped (st .run); store = st .store }
 noted-refused st e s n = rw (ne-eqb (e .refusal) 0 n) refl
 
-framed-refused : (st : State) (got : ℕ) (f : List ℕ) → entryOf (st .run .account) got f .refusal ≢ 0 → framed st got f ≡ record { run = stopped (st .run); store = st .store }
+framed-refused : (st : State) (got : ℕ) (f : List ℕ) → entryOf (st .run .account) got f .refusal ≢ 0
+    → framed st got f ≡ record { run = stopped (st .run); store = st .store }
 unfolding framed
 framed-refused st got f n = noted-refused st (entryOf (st .run .account) got f) _ n
 
@@ -41,7 +43,8 @@ by-number n h = (λ _. inl h, λ _. refl)
 without : (true ≡ true) ↔ ((_≢_ {A = ℕ} 0 0) ⊎ (true ≡ true))
 without = (λ _. inr refl, λ _. refl)
 
-framed-stops : (st : State) (got : ℕ) (f : List ℕ) → (isStopped (framed st got f .run .phase) ≡ true) ↔ ((entryOf (st .run .account) got f .refusal ≢ 0) ⊎ (false ≡ true))
+framed-stops : (st : State) (got : ℕ) (f : List ℕ)
+    → (isStopped (framed st got f .run .phase) ≡ true) ↔ ((entryOf (st .run .account) got f .refusal ≢ 0) ⊎ (false ≡ true))
 unfolding framed isStopped
 framed-stops st got f = go (entryOf (st .run .account) got f) (ℕ-discrete (entryOf (st .run .account) got f .refusal) 0)
   where
@@ -61,7 +64,8 @@ stops (Order start asked allowed next) Unordered st s r e h = rw e neither
 stops (Order start asked allowed next) Going st s r e h = rw e without
 stops (Frame number from next) Unordered st s r e h = rw e without
 stops (Frame number from next) Going st s r e h =
-    subst (λ (p : Phase). (isStopped (frameCame p st number (symbolsAt s from) .run .phase) ≡ true) ↔ ((frameRefusal p st number (symbolsAt s from) ≢ 0) ⊎ (false ≡ true))) (sym e) (framed-stops st number (symbolsAt s from))
+    subst (λ (p : Phase). (isStopped (frameCame p st number (symbolsAt s from) .run .phase) ≡ true) ↔
+    ((frameRefusal p st number (symbolsAt s from) ≢ 0) ⊎ (false ≡ true))) (sym e) (framed-stops st number (symbolsAt s from))
 
 pub stops-exactly : StopsExactly
 unfolding stepped stepRefusal
@@ -69,7 +73,8 @@ stops-exactly st s h = stops (readAt s 0) (st .run .phase) st s refl refl h
 
 -- ---- and nothing else
 
-framed-only : (st : State) (got : ℕ) (f : List ℕ) → isStopped (framed st got f .run .phase) ≡ true → framed st got f ≡ record { run = stopped (st .run); store = st .store }
+framed-only : (st : State) (got : ℕ) (f : List ℕ) → isStopped (framed st got f .run .phase) ≡ true
+    → framed st got f ≡ record { run = stopped (st .run); store = st .store }
 framed-only st got f h = go (framed-stops st got f .0 h)
   where
     go : (entryOf (st .run .account) got f .refusal ≢ 0) ⊎ (false ≡ true) → framed st got f ≡ record { run = stopped (st .run); store = st .store }
@@ -84,7 +89,8 @@ came-only End Unordered st s e h t = absurd (false≢true (sym (ap isStopped e) 
 came-only End Going st s e h t = absurd (false≢true (sym (ap isStopped e) ∙ t))
 came-only (Refused refusal) Unordered st s e h t = rw e refl
 came-only (Refused refusal) Going st s e h t = rw e refl
-came-only (Order start asked allowed next) Unordered st s e h t = absurd (false≢true (ap (λ (p : Phase). isStopped (orderCame p st start asked allowed .run .phase)) (sym e) ∙ t))
+came-only (Order start asked allowed next) Unordered st s e h t =
+    absurd (false≢true (ap (λ (p : Phase). isStopped (orderCame p st start asked allowed .run .phase)) (sym e) ∙ t))
 came-only (Order start asked allowed next) Going st s e h t = rw e refl
 came-only (Frame number from next) Unordered st s e h t = rw e refl
 came-only (Frame number from next) Going st s e h t =

@@ -50,7 +50,8 @@ unfolding through stepped
 through-alike [] x y a = a .run
 through-alike (p ∷ ps) x y a =
     through-alike ps (cameAs (readAt p 0) x p) (cameAs (readAt p 0) y p)
-    (subst (λ (r : Run). Alike (cameAs (readAt p 0) x p) (cameAs (readAt p 0) (record { run = r; store = y .store }) p)) (a .run) (came-whatever (x .run) (x .store) (y .store) (x .run .phase) refl (a .store) (readAt p 0) p))
+    (subst (λ (r : Run). Alike (cameAs (readAt p 0) x p) (cameAs (readAt p 0) (record { run = r; store = y .store }) p)) (a .run)
+    (came-whatever (x .run) (x .store) (y .store) (x .run .phase) refl (a .store) (readAt p 0) p))
 
 pub any-store : AnyStore
 any-store s store =
@@ -69,7 +70,8 @@ framed-whole st got f h =
     whole-either-way (eqb (entryOf (st .run .account) got f .refusal) 0) (cond (locks f 0) (receivedStore f (st .store)) (st .store)) (st .store)
     (whole-either-way (locks f 0) (receivedStore f (st .store)) (st .store) (store-length f (st .store)) h) h
 
-came-whole : (read : Read) (p : Phase) (st : State) (piece : List ℕ) → st .run .phase ≡ p → length (st .store) ≡ 2880 → length (cameAs read st piece .store) ≡ 2880
+came-whole : (read : Read) (p : Phase) (st : State) (piece : List ℕ) → st .run .phase ≡ p → length (st .store) ≡ 2880
+    → length (cameAs read st piece .store) ≡ 2880
 unfolding cameAs orderCame frameCame halted framed
 came-whole End p st piece e h = h
 came-whole (Refused refusal) p st piece e h = h

@@ -62,7 +62,8 @@ walked-end zero s i st h = refl
 walked-end (suc n) s i st h = rw h (walked-end n s i st h)
 
 -- one record of the walk
-pub walked-one : (n : ℕ) (s : List ℕ) (i : ℕ) (st : State) (read : Read) → readAt s i ≡ read → walked (suc n) s i st ≡ walked n s (nextOf read i) (cameAs read st s)
+pub walked-one : (n : ℕ) (s : List ℕ) (i : ℕ) (st : State) (read : Read) → readAt s i ≡ read
+    → walked (suc n) s i st ≡ walked n s (nextOf read i) (cameAs read st s)
 unfolding walked
 walked-one n s i st read e = ap (λ (r : Read). walked n s (nextOf r i) (cameAs r st s)) e
 
@@ -98,7 +99,8 @@ pub step-piece : (st : State) (s : List ℕ) → stepped st (take (wanted s) s) 
 unfolding stepped
 step-piece st s =
     let W = wanted-reads s in
-    ap (λ (r : Read). cameAs r st (take (wanted s) s)) (W .0) ∙ came-alike (readAt s 0) st (take (wanted s) s) s (λ number from next e. W .2 number from next e .1)
+    ap (λ (r : Read). cameAs r st (take (wanted s) s)) (W .0) ∙ came-alike (readAt s 0) st (take (wanted s) s) s
+    (λ number from next e. W .2 number from next e .1)
 
 -- where a run that goes on reads, all of what it reads is wanted
 next-wanted : (s : List ℕ) (i : ℕ) (read : Read) → readAt (drop i s) 0 ≡ read
@@ -108,9 +110,11 @@ next-wanted s i End e = inl (reads-from-here s i ∙ ap (shifted i) e)
 next-wanted s i (Refused refusal) e =
     inr (inl (λ st. ap (λ (r : Read). cameAs r st s .run .phase) (reads-from-here s i ∙ ap (shifted i) e) ∙ refused-stops st s refusal))
 next-wanted s i (Order start asked allowed next) e =
-    inr (inr (ap (λ (r : Read). nextOf r i) (reads-from-here s i ∙ ap (shifted i) e) ∙ ap (λ (n : ℕ). i + n) (wanted-reads (drop i s) .1 start asked allowed next e)))
+    inr (inr (ap (λ (r : Read). nextOf r i) (reads-from-here s i ∙ ap (shifted i) e)
+    ∙ ap (λ (n : ℕ). i + n) (wanted-reads (drop i s) .1 start asked allowed next e)))
 next-wanted s i (Frame number from next) e =
-    inr (inr (ap (λ (r : Read). nextOf r i) (reads-from-here s i ∙ ap (shifted i) e) ∙ ap (λ (n : ℕ). i + n) (wanted-reads (drop i s) .2 number from next e .0)))
+    inr (inr (ap (λ (r : Read). nextOf r i) (reads-from-here s i ∙ ap (shifted i) e)
+    ∙ ap (λ (n : ℕ). i + n) (wanted-reads (drop i s) .2 number from next e .0)))
 
 -- ---- piece by piece
 
@@ -126,17 +130,23 @@ module _ (s : List ℕ) where
       new-is : stepped st (take (wanted (drop i s)) (drop i s)) ≡ new
       new-is = step-piece st (drop i s) ∙ step-here st s i
 
-      here : through (stepped st (take (wanted (drop i s)) (drop i s))) (cut n (drop (wanted (drop i s)) (drop i s))) ≡ through new (cut n (drop (wanted (drop i s)) (drop i s)))
+      here : through (stepped st (take (wanted (drop i s)) (drop i s))) (cut n (drop (wanted (drop i s)) (drop i s))) ≡ through new
+          (cut n (drop (wanted (drop i s)) (drop i s)))
       here = ap (λ (x : State). through x (cut n (drop (wanted (drop i s)) (drop i s)))) new-is
 
-      at : Dec (length (drop i s) ≡ 0) → (readAt s i ≡ End) ⊎ (((x : State) → cameAs (readAt s i) x s .run .phase ≡ Stopped) ⊎ (nextOf (readAt s i) i ≡ i + wanted (drop i s)))
+      at : Dec (length (drop i s) ≡ 0)
+          → (readAt s i ≡ End) ⊎ (((x : State) → cameAs (readAt s i) x s .run .phase ≡ Stopped) ⊎ (nextOf (readAt s i) i ≡ i + wanted (drop i s)))
           → ((j : ℕ) (x : State) → through x (cut n (drop j s)) ≡ walked n s j x)
           → through st (cond (eqb (length (drop i s)) 0) [] (take (wanted (drop i s)) (drop i s) ∷ cut n (drop (wanted (drop i s)) (drop i s))))
           ≡ walked n s (nextOf (readAt s i) i) (cameAs (readAt s i) st s)
       at (yes z) c IH = rw (eq-eqb (length (drop i s)) 0 z) (sym (walked-end (suc n) s i st (sym (at-end s i (let d = length-drop i s in omega arith)))))
       at (no z) (inl e) IH = let out = end s i e in absurd (z (let d = length-drop i s in omega arith))
-      at (no z) (inr (inl h)) IH = rw (ne-eqb (length (drop i s)) 0 z) (here ∙ through-stays new (h st) (cut n (drop (wanted (drop i s)) (drop i s))) ∙ sym (walked-stays new (h st) n s (nextOf (readAt s i) i)))
-      at (no z) (inr (inr e)) IH = rw (ne-eqb (length (drop i s)) 0 z) (here ∙ ap (λ (l : List ℕ). through new (cut n l)) (drop-drop (wanted (drop i s)) i s) ∙ IH (i + wanted (drop i s)) new ∙ ap (λ (j : ℕ). walked n s j new) (sym e))
+      at (no z) (inr (inl h)) IH =
+          rw (ne-eqb (length (drop i s)) 0 z) (here ∙ through-stays new (h st) (cut n (drop (wanted (drop i s)) (drop i s)))
+          ∙ sym (walked-stays new (h st) n s (nextOf (readAt s i) i)))
+      at (no z) (inr (inr e)) IH =
+          rw (ne-eqb (length (drop i s)) 0 z) (here ∙ ap (λ (l : List ℕ). through new (cut n l)) (drop-drop (wanted (drop i s)) i s)
+          ∙ IH (i + wanted (drop i s)) new ∙ ap (λ (j : ℕ). walked n s j new) (sym e))
 
 pub pieces-alike : PiecesAlike
 unfolding pieces examined
@@ -156,7 +166,8 @@ pub walk-ends : (s : List ℕ) (i : ℕ) (st : State) → Ahead s i st → lengt
 walk-ends s i st (n, e, w) h = sym (walked-end n s i st (sym (at-end s i h))) ∙ w
 
 -- one record on: the place moves, or the run is stopped
-module _ (s : List ℕ) (i : ℕ) (st : State) (A : Ahead s i st) (h : i < length s) (read : Read) (is : read ≡ readAt s i) (new : State) (step : new ≡ stepped st (take (length s - i) (drop i s)))
+module _ (s : List ℕ) (i : ℕ) (st : State) (A : Ahead s i st) (h : i < length s) (read : Read) (is : read ≡ readAt s i) (new : State)
+    (step : new ≡ stepped st (take (length s - i) (drop i s)))
     (next : ℕ) (at : next ≡ nextOf read i) where
   new-came : new ≡ cameAs (readAt s i) st s
   new-came = step ∙ ap (stepped st) (take-all (length s - i) (drop i s) (let d = length-drop i s in omega arith)) ∙ step-here st s i
@@ -164,19 +175,19 @@ module _ (s : List ℕ) (i : ℕ) (st : State) (A : Ahead s i st) (h : i < lengt
   next-is : next ≡ nextOf (readAt s i) i
   next-is = at ∙ ap (λ (r : Read). nextOf r i) is
 
-  turn : (n : ℕ) → length s ≤ i + n → walked n s i st ≡ examined s → (m : ℕ) × (n ≡ suc m) × (walked m s next new ≡ examined s)
+  one-on : (n : ℕ) → length s ≤ i + n → walked n s i st ≡ examined s → (m : ℕ) × (n ≡ suc m) × (walked m s next new ≡ examined s)
   unfolding walked
-  turn zero e w = absurd (omega arith)
-  turn (suc m) e w = (m, refl, rw (new-came, next-is) w)
+  one-on zero e w = absurd (omega arith)
+  one-on (suc m) e w = (m, refl, rw (new-came, next-is) w)
 
   pub walk-goes : i < next → Ahead s next new
   walk-goes l =
-      let T = turn (A .0) (A .1) (A .2) in
+      let T = one-on (A .0) (A .1) (A .2) in
       (T .0, (let e = A .1 in let q = T .1 in omega arith), T .2)
 
   pub walk-stops : next ≤ i → new ≡ examined s
   walk-stops l =
-      let T = turn (A .0) (A .1) (A .2) in
+      let T = one-on (A .0) (A .1) (A .2) in
       sym (walked-stays new (stop (readAt s i) refl) (T .0) s next) ∙ T .2
     where
       stop : (r : Read) → readAt s i ≡ r → new .run .phase ≡ Stopped
@@ -215,7 +226,8 @@ pieces-first s h = go (length s) refl
     go (suc n) e =
         let w = wanted-bounds s .0 in
         let d = length-drop (wanted s) s in
-        rw (ne-eqb (length s) 0 (λ z. omega arith)) (ap (λ (ps : List (List ℕ)). take (wanted s) s ∷ ps) (cut-enough n (length (drop (wanted s) s)) (drop (wanted s) s) (omega arith) (omega arith)))
+        rw (ne-eqb (length s) 0 (λ z. omega arith))
+        (ap (λ (ps : List (List ℕ)). take (wanted s) s ∷ ps) (cut-enough n (length (drop (wanted s) s)) (drop (wanted s) s) (omega arith) (omega arith)))
 
 -- the bytes s have been stepped through, up to the state st, whatever may follow them
 abbrev pub Onward : List ℕ → State → Type 0
@@ -234,7 +246,8 @@ module _ (s : List ℕ) (st : State) (O : Onward s st) (p : List ℕ) (some : 0 
   pub onward-last : length p ≤ wanted p → stepped st p ≡ examined (s ++ p)
   unfolding through pieces cut
   onward-last h =
-      ap (stepped st) (sym (take-all (wanted p) p h)) ∙ ap (λ (x : List ℕ). through (stepped st (take (wanted p) p)) (pieces x)) (sym (none-left (wanted p) p h))
+      ap (stepped st) (sym (take-all (wanted p) p h)) ∙ ap (λ (x : List ℕ). through (stepped st (take (wanted p) p)) (pieces x))
+      (sym (none-left (wanted p) p h))
       ∙ ap (through st) (sym (pieces-first p some)) ∙ O p
 
   -- all that is wanted
@@ -258,6 +271,8 @@ short-stops st p some h = go (readAt p 0) refl
     go End e = absurd (let z = end p 0 e in omega arith)
     go (Refused refusal) e = refused-stops st p refusal
     go (Order start asked allowed next) e =
-        absurd (let w = order-found p 0 e .whole .inside in let n = order-found p 0 e .next-is in let q = wanted-reads p .1 start asked allowed next e in omega arith)
+        absurd (let w = order-found p 0 e .whole .inside in let n = order-found p 0 e .next-is in let q = wanted-reads p .1 start asked allowed next e in
+        omega arith)
     go (Frame number from next) e =
-        absurd (let w = frame-found p 0 e .whole .inside in let n = frame-found p 0 e .next-is in let q = wanted-reads p .2 number from next e .0 in omega arith)
+        absurd (let w = frame-found p 0 e .whole .inside in let n = frame-found p 0 e .next-is in let q = wanted-reads p .2 number from next e .0 in
+        omega arith)

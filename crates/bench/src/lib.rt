@@ -2,7 +2,8 @@
 ghost use mathlib.Core.Path.{_≡_};
 ghost use mathlib.Core.Bool.{cond};
 ghost use lib.ListN.{length};
-ghost use Rattle.bench.specs.definitions.Run.{begun, going, stopped, afterEntry, isStopped, framed, entryOf, orderCame, frameCame, frameRefusal, halted, stepped, stepRefusal, goesOn, verdictOf};
+ghost use Rattle.bench.specs.definitions.Run.{begun, going, stopped, afterEntry, isStopped, framed, entryOf, orderCame, frameCame, frameRefusal, halted};
+ghost use Rattle.bench.specs.definitions.Run.{stepped, stepRefusal, goesOn, verdictOf};
 ghost use Rattle.bench.specs.definitions.Walk.{examined};
 
 // No order yet; going on; stopped by a refusal, a second order, a frame before any order or a read that failed.
@@ -105,7 +106,8 @@ fn noted(run: Run, e: account::Entry) -> Stepped
 // A frame received and entered, or, without lock, entered as a loss. A refused entry stops the run, and the store stays as it was.
 fn framed(run: Run, store: &mut [u8; 2880], got: u32, symbols: &[u8]) -> Stepped
     requires { ⌜ length (now symbols) ≡ 6144 ⌝ }
-    ensures { λ r. ⌜ (record { run = r .run; store = now (store .exit) } ≡ framed (record { run = run; store = now (store .entry) }) got (now (symbols .entry))) × (r .refusal ≡ entryOf (run .account) got (now (symbols .entry)) .refusal) ⌝ }
+    ensures { λ r. ⌜ (record { run = r .run; store = now (store .exit) } ≡ framed (record { run = run; store = now (store .entry) }) got (now (symbols .entry)))
+        × (r .refusal ≡ entryOf (run .account) got (now (symbols .entry)) .refusal) ⌝ }
 {
     let a = run.account;
     let mut kept = [0u8; 2880];
@@ -128,7 +130,8 @@ fn framed(run: Run, store: &mut [u8; 2880], got: u32, symbols: &[u8]) -> Stepped
 
 // An order came: the first is taken, with a new account and a fresh store; a second one stops the run.
 fn ordered(run: Run, store: &mut [u8; 2880], start: u32, asked: u32, allowed: u32) -> Run
-    ensures { λ r. ⌜ record { run = r; store = now (store .exit) } ≡ orderCame (run .phase) (record { run = run; store = now (store .entry) }) start asked allowed ⌝ }
+    ensures { λ r. ⌜ record { run = r; store = now (store .exit) }
+        ≡ orderCame (run .phase) (record { run = run; store = now (store .entry) }) start asked allowed ⌝ }
 {
     let p = run.phase;
     match p {
@@ -151,7 +154,9 @@ fn ordered(run: Run, store: &mut [u8; 2880], start: u32, asked: u32, allowed: u3
 // A frame came: before any order it stops the run.
 fn came(run: Run, store: &mut [u8; 2880], got: u32, symbols: &[u8]) -> Stepped
     requires { ⌜ length (now symbols) ≡ 6144 ⌝ }
-    ensures { λ r. ⌜ (record { run = r .run; store = now (store .exit) } ≡ frameCame (run .phase) (record { run = run; store = now (store .entry) }) got (now (symbols .entry))) × (r .refusal ≡ frameRefusal (run .phase) (record { run = run; store = now (store .entry) }) got (now (symbols .entry))) ⌝ }
+    ensures { λ r. ⌜ (record { run = r .run; store = now (store .exit) }
+        ≡ frameCame (run .phase) (record { run = run; store = now (store .entry) }) got (now (symbols .entry)))
+        × (r .refusal ≡ frameRefusal (run .phase) (record { run = run; store = now (store .entry) }) got (now (symbols .entry))) ⌝ }
 {
     let p = run.phase;
     match p {
@@ -180,7 +185,8 @@ fn halted(run: Run, refusal: u32) -> Stepped
 
 // One record's bytes alone, and what they change: a refused record only stops the run, and a run that is stopped changes no more. The number is the refusal's.
 pub fn step(run: Run, store: &mut [u8; 2880], piece: &[u8]) -> Stepped
-    ensures { λ r. ⌜ (record { run = r .run; store = now (store .exit) } ≡ stepped (record { run = run; store = now (store .entry) }) (now (piece .entry))) × (r .refusal ≡ stepRefusal (record { run = run; store = now (store .entry) }) (now (piece .entry))) ⌝ }
+    ensures { λ r. ⌜ (record { run = r .run; store = now (store .exit) } ≡ stepped (record { run = run; store = now (store .entry) }) (now (piece .entry)))
+        × (r .refusal ≡ stepRefusal (record { run = run; store = now (store .entry) }) (now (piece .entry))) ⌝ }
 {
     let read = capture::read_at(piece, 0);
     match read {

@@ -101,6 +101,13 @@ module _ {A : Type 0} (f : ℕ → A) {n : ℕ} {out₀ : List A} where
           ∙ sym (append-assoc (tabulate i f) (tabulate m (λ j. f (i + j))) (drop e out₀))
           ∙ ap (λ (t : List A). t ++ drop e out₀) (sym (tabulate-append i m f) ∙ ap (λ (k : ℕ). tabulate k f) whole)
 
+-- a buffer filled in front holds the table over what was there
+pub filling-over : {A : Type 0} (f : ℕ → A) {l : ℕ} {out₀ out : List A} {n : ℕ} → Filling f l out₀ out n → out ≡ copied (tabulate n f) out₀
+unfolding copied
+filling-over f {l} {out₀} {out} {n} F =
+    let fits : length (tabulate n f) ≤ length out₀ = rw length-tabulate (omega (arith, F .long₀, F .upto)) in
+    F .is ∙ ap₂ _++_ (sym (take-all (length out₀) (tabulate n f) fits)) (ap (λ (k : ℕ). drop k out₀) (sym (length-tabulate n f)))
+
 -- a buffer filled from another as far as both go holds what was copied
 pub filling-copied : {A : Type 0} (d : A) (from : List A) {l : ℕ} {out₀ out : List A} {n : ℕ} → Filling (λ i. getD from i d) l out₀ out n → n ≤ length from
     → (length from ≤ n) ⊎ (l ≤ n) → out ≡ copied from out₀

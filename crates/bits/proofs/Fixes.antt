@@ -18,8 +18,15 @@ Fixes n ps r ensures buffers =
     (κs : Lfts n) (a : Dens κs ps) (x y : resT r κs .Denot) (s t : AtExit (endedOf n ps r) κs) → ensures κs a x s → ensures κs a y t
     → (x ≡ y) × buffers κs s t
 
--- The `ensures` of a function that is proved by a walk stands as an assertion of the logic. It is a plain fact `says` of the result and of the parameters at exit,
--- and two outcomes of one call of which that holds are alike.
+-- The same where the result's type says more of a result than its contract does: the list of an array has the array's length, which `typed` states.
+abbrev pub FixesTyped : (n : ℕ) (ps : List (PK n)) (r : RK n) → ((κs : Lfts n) → resT r κs .Denot → Type 0) → Out n ps r
+    → ((κs : Lfts n) → AtExit (endedOf n ps r) κs → AtExit (endedOf n ps r) κs → Type 0) → Type 0
+FixesTyped n ps r typed ensures buffers =
+    (κs : Lfts n) (a : Dens κs ps) (x y : resT r κs .Denot) (s t : AtExit (endedOf n ps r) κs) → typed κs x → typed κs y → ensures κs a x s
+    → ensures κs a y t → (x ≡ y) × buffers κs s t
+
+-- The `ensures` of a function that is proved by a walk stands as an assertion of the logic. It is a plain fact `says` of the result and of the parameters
+-- at exit, and two outcomes of one call of which that holds are alike.
 abbrev pub FixesSaid : {M : Type 1} (𝓤 : URA M) (T : Ended) → Clauses 𝓤 T
     → ((κs : Lfts (T .signature .lifetimes)) → (x y : Res (T .signature) κs) (s t : AtExit T κs) → Type 0) → Type 2
 FixesSaid 𝓤 T clauses alike =

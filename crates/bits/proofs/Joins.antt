@@ -12,6 +12,7 @@ use lib.Pow.{pow-add, pow-pos, pow-mono, shr-lt, shl-exact}
 use lib.Bits.{bitAnd, bitOr, and-mask, or-shifted}
 use lib.ListN.{length, getD, set, length-set}
 use lib.Seq.{getD-set-same, getD-set-other}
+use Rattle.bits.specs.private.Joins.{Put}
 use Rattle.bits.specs.definitions.Bits.{fieldAt, AllBytes}
 use Rattle.bits.proofs.Value.{value-cong, value-digits}
 use Rattle.bits.proofs.Fields.{bytes-field}
@@ -43,13 +44,6 @@ pub record Putting (n v o : ℕ) (d l : List ℕ) (j : ℕ) : Type 0 where
   pub before : (m : ℕ) → m < o → getD l m 0 ≡ getD d m 0
   pub after : (m : ℕ) → o + j ≤ m → getD l m 0 ≡ getD d m 0
   pub digit : (i : ℕ) → i < j → getD l (o + i) 0 ≡ v / 2 ^ (8 * (n - (i + 1))) % 256
-
-pub record Put (n v o : ℕ) (d l : List ℕ) : Type 0 where
-  pub long : length l ≡ length d
-  pub bytes : AllBytes l
-  pub before : (m : ℕ) → m < o → getD l m 0 ≡ getD d m 0
-  pub after : (m : ℕ) → o + n ≤ m → getD l m 0 ≡ getD d m 0
-  pub is : fieldAt l (8 * o) (8 * n) ≡ v
 
 byte-pow : (k : ℕ) → 2 ^ (8 * k) ≡ 256 ^ k
 byte-pow zero = refl

@@ -3,6 +3,7 @@ pub mod Tabulate
 pub mod Filling
 pub mod Words
 pub mod Table
+pub mod Sums
 pub mod First
 pub mod Value
 pub mod Fields

@@ -30,11 +30,13 @@ module _ (s : List ℕ) (i : ℕ) where
     module _ (h : bytes ≤ length s - i) (v : getD s (i + layout .versionAt) 0 ≡ layout .version) where
       pub refused-kind : (getD s (i + layout .kindAt) 0 ≡ kind → ⊥) → 9 ≡ refusalAt s i bytes kind
       unfolding refusalAt
-      refused-kind k = simp (le-ltb (length s - i) bytes h, eq-eqb (getD s (i + layout .versionAt) 0) (layout .version) v, ne-eqb (getD s (i + layout .kindAt) 0) kind k)
+      refused-kind k =
+          simp (le-ltb (length s - i) bytes h, eq-eqb (getD s (i + layout .versionAt) 0) (layout .version) v, ne-eqb (getD s (i + layout .kindAt) 0) kind k)
 
       pub not-refused : getD s (i + layout .kindAt) 0 ≡ kind → 0 ≡ refusalAt s i bytes kind
       unfolding refusalAt
-      not-refused k = simp (le-ltb (length s - i) bytes h, eq-eqb (getD s (i + layout .versionAt) 0) (layout .version) v, eq-eqb (getD s (i + layout .kindAt) 0) kind k)
+      not-refused k =
+          simp (le-ltb (length s - i) bytes h, eq-eqb (getD s (i + layout .versionAt) 0) (layout .version) v, eq-eqb (getD s (i + layout .kindAt) 0) kind k)
 
   -- a record of a lawful length, refused or not
   module _ (r : ℕ) where
@@ -75,11 +77,25 @@ module _ (s : List ℕ) (i : ℕ) where
       module _ (n : bigEndianAt s i ≡ layout .orderLength → ⊥) where
         pub a-frame : bigEndianAt s i ≡ layout .frameLength → frameAt s i ≡ readAt s i
         unfolding readAt
-        a-frame m = simp (lt-leb (length s) i a, le-ltb (length s - i) (layout .lengthBytes) b, ne-eqb (bigEndianAt s i) (layout .orderLength) n, eq-eqb (bigEndianAt s i) (layout .frameLength) m)
+        a-frame m =
+            simp (
+              lt-leb (length s) i a,
+              le-ltb (length s - i) (layout .lengthBytes) b,
+              ne-eqb (bigEndianAt s i) (layout .orderLength) n,
+              eq-eqb
+                  (bigEndianAt s i) (layout .frameLength) m,
+            )
 
         pub no-lawful : (bigEndianAt s i ≡ layout .frameLength → ⊥) → Refused 7 ≡ readAt s i
         unfolding readAt
-        no-lawful m = simp (lt-leb (length s) i a, le-ltb (length s - i) (layout .lengthBytes) b, ne-eqb (bigEndianAt s i) (layout .orderLength) n, ne-eqb (bigEndianAt s i) (layout .frameLength) m)
+        no-lawful m =
+            simp (
+              lt-leb (length s) i a,
+              le-ltb (length s - i) (layout .lengthBytes) b,
+              ne-eqb (bigEndianAt s i) (layout .orderLength) n,
+              ne-eqb
+                  (bigEndianAt s i) (layout .frameLength) m,
+            )
 
   -- the symbols, and where fewer bytes are left
   pub symbols-none : length s < i + layout .symbols → [] ≡ symbolsAt s i
@@ -108,8 +124,10 @@ module _ (s : List ℕ) where
     module _ (n : bigEndianAt s 0 ≡ layout .orderLength → ⊥) where
       pub wanted-frame : bigEndianAt s 0 ≡ layout .frameLength → layout .frameBytes ≡ wanted s
       unfolding wanted
-      wanted-frame m = simp (le-ltb (length s) (layout .lengthBytes) h, ne-eqb (bigEndianAt s 0) (layout .orderLength) n, eq-eqb (bigEndianAt s 0) (layout .frameLength) m)
+      wanted-frame m =
+          simp (le-ltb (length s) (layout .lengthBytes) h, ne-eqb (bigEndianAt s 0) (layout .orderLength) n, eq-eqb (bigEndianAt s 0) (layout .frameLength) m)
 
       pub wanted-no-more : (bigEndianAt s 0 ≡ layout .frameLength → ⊥) → layout .lengthBytes ≡ wanted s
       unfolding wanted
-      wanted-no-more m = simp (le-ltb (length s) (layout .lengthBytes) h, ne-eqb (bigEndianAt s 0) (layout .orderLength) n, ne-eqb (bigEndianAt s 0) (layout .frameLength) m)
+      wanted-no-more m =
+          simp (le-ltb (length s) (layout .lengthBytes) h, ne-eqb (bigEndianAt s 0) (layout .orderLength) n, ne-eqb (bigEndianAt s 0) (layout .frameLength) m)

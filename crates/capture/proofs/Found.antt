@@ -9,7 +9,8 @@ use lib.ListN.{length, getD}
 use Rattle.capture.specs.declared.Read.{Read}
 use Rattle.capture.specs.declared.Read.the-variants.{End, Refused, Order, Frame}
 use Rattle.capture.specs.definitions.Capture.{layout, bigEndianAt, refusalAt, orderAt, frameAt, readAt}
-use Rattle.capture.proofs.Cases.{refused-short, refused-version, refused-kind, not-refused, order-refused, frame-refused, order-read, frame-read, at-end, no-length, an-order, a-frame, no-lawful}
+use Rattle.capture.proofs.Cases.{refused-short, refused-version, refused-kind, not-refused, order-refused, frame-refused, order-read, frame-read, at-end}
+use Rattle.capture.proofs.Cases.{no-length, an-order, a-frame, no-lawful}
 
 -- a whole record of so many bytes and of this kind
 pub record Whole (s : List ℕ) (i bytes k : ℕ) : Type 0 where
@@ -19,9 +20,11 @@ pub record Whole (s : List ℕ) (i bytes k : ℕ) : Type 0 where
 
 module _ (s : List ℕ) (i : ℕ) where
   pub whole : (bytes kind : ℕ) → refusalAt s i bytes kind ≡ 0 → Whole s i bytes kind
-  whole bytes kind e = go (decLt (length s - i) bytes) (ℕ-discrete (getD s (i + layout .versionAt) 0) (layout .version)) (ℕ-discrete (getD s (i + layout .kindAt) 0) kind)
+  whole bytes kind e =
+      go (decLt (length s - i) bytes) (ℕ-discrete (getD s (i + layout .versionAt) 0) (layout .version)) (ℕ-discrete (getD s (i + layout .kindAt) 0) kind)
     where
-      go : Dec (length s - i < bytes) → Dec (getD s (i + layout .versionAt) 0 ≡ layout .version) → Dec (getD s (i + layout .kindAt) 0 ≡ kind) → Whole s i bytes kind
+      go : Dec (length s - i < bytes) → Dec (getD s (i + layout .versionAt) 0 ≡ layout .version) → Dec (getD s (i + layout .kindAt) 0 ≡ kind)
+          → Whole s i bytes kind
       go (yes h) v k = let z : _≡_ {A = ℕ} 6 0 = refused-short s i bytes kind h ∙ e in absurd (omega arith)
       go (no h) (no v) k = let z : _≡_ {A = ℕ} 8 0 = refused-version s i bytes kind (omega arith) v ∙ e in absurd (omega arith)
       go (no h) (yes v) (no k) = let z : _≡_ {A = ℕ} 9 0 = refused-kind s i bytes kind (omega arith) v k ∙ e in absurd (omega arith)
@@ -56,7 +59,8 @@ Stands s i (Frame number from next) = FrameStands s i number from next
 
 module _ (s : List ℕ) (i : ℕ) where
   refusal-range : (bytes kind : ℕ) → (refusalAt s i bytes kind ≡ 0 → ⊥) → (6 ≤ refusalAt s i bytes kind) × (refusalAt s i bytes kind ≤ 9)
-  refusal-range bytes kind n = go (decLt (length s - i) bytes) (ℕ-discrete (getD s (i + layout .versionAt) 0) (layout .version)) (ℕ-discrete (getD s (i + layout .kindAt) 0) kind)
+  refusal-range bytes kind n =
+      go (decLt (length s - i) bytes) (ℕ-discrete (getD s (i + layout .versionAt) 0) (layout .version)) (ℕ-discrete (getD s (i + layout .kindAt) 0) kind)
     where
       go : Dec (length s - i < bytes) → Dec (getD s (i + layout .versionAt) 0 ≡ layout .version) → Dec (getD s (i + layout .kindAt) 0 ≡ kind)
           → (6 ≤ refusalAt s i bytes kind) × (refusalAt s i bytes kind ≤ 9)
@@ -86,9 +90,12 @@ module _ (s : List ℕ) (i : ℕ) where
 
   pub stands : Stands s i (readAt s i)
   unfolding Stands
-  stands = go (decLt i (length s)) (decLt (length s - i) (layout .lengthBytes)) (ℕ-discrete (bigEndianAt s i) (layout .orderLength)) (ℕ-discrete (bigEndianAt s i) (layout .frameLength))
+  stands =
+      go (decLt i (length s)) (decLt (length s - i) (layout .lengthBytes)) (ℕ-discrete (bigEndianAt s i) (layout .orderLength))
+      (ℕ-discrete (bigEndianAt s i) (layout .frameLength))
     where
-      go : Dec (i < length s) → Dec (length s - i < layout .lengthBytes) → Dec (bigEndianAt s i ≡ layout .orderLength) → Dec (bigEndianAt s i ≡ layout .frameLength)
+      go : Dec (i < length s) → Dec (length s - i < layout .lengthBytes) → Dec (bigEndianAt s i ≡ layout .orderLength)
+          → Dec (bigEndianAt s i ≡ layout .frameLength)
           → Stands s i (readAt s i)
       go (no h) l n f = let out : length s ≤ i = omega arith in subst (Stands s i) (at-end s i out) out
       go (yes h) (yes l) n f = subst (Stands s i) (no-length s i h l) (omega arith, omega arith)

@@ -4,3 +4,4 @@ pub mod Local
 pub mod Records
 pub mod Determined
 pub mod Examples
+pub mod Readers

@@ -17,7 +17,8 @@ use Rattle.capture.specs.declared.Read.{Read}
 use Rattle.capture.specs.declared.Read.the-variants.{Refused}
 use Rattle.capture.specs.definitions.Capture.{layout, bigEndianAt, refusalAt, refusedOr, orderAt, frameAt, readAt, shifted, symbolsAt, wanted}
 use Rattle.capture.specs.statements.Local.{ReadsFromHere, ReadsWithMore, WantedReads, WantedAlike, ReadLocal}
-use Rattle.capture.proofs.Cases.{refused-short, order-refused, frame-refused, at-end, no-length, an-order, a-frame, no-lawful, symbols-none, symbols-are, wanted-first, wanted-order, wanted-frame, wanted-no-more}
+use Rattle.capture.proofs.Cases.{refused-short, order-refused, frame-refused, at-end, no-length, an-order, a-frame, no-lawful, symbols-none, symbols-are}
+use Rattle.capture.proofs.Cases.{wanted-first, wanted-order, wanted-frame, wanted-no-more}
 use Rattle.capture.proofs.Found.{order-found, frame-found}
 
 -- a choice, shifted
@@ -62,12 +63,24 @@ module _ (s t : List ℕ) (i : ℕ) where
   unfolding refusalAt
   refusal-more bytes kind h l =
       let more : bytes ≤ length (s ++ t) - i = rw length-append (omega arith) in
-      rw (le-ltb (length (s ++ t) - i) bytes more, le-ltb (length s - i) bytes h, List·getD-append s t 0 (i + layout .versionAt) (omega arith), List·getD-append s t 0 (i + layout .kindAt) (omega arith))
+      rw (
+        le-ltb (length (s ++ t) - i) bytes more,
+        le-ltb (length s - i) bytes h,
+        List·getD-append s t 0 (i + layout .versionAt) (omega arith),
+        List·getD-append
+            s t 0 (i + layout .kindAt) (omega arith),
+      )
 
   order-more : layout .orderBytes ≤ length s - i → orderAt (s ++ t) i ≡ orderAt s i
   unfolding orderAt
   order-more h =
-      rw (refusal-more (layout .orderBytes) (layout .orderKind) h (omega arith), big-endian-more (layout .startAt) (omega arith), big-endian-more (layout .askedAt) (omega arith), big-endian-more (layout .allowedAt) (omega arith))
+      rw (
+        refusal-more (layout .orderBytes) (layout .orderKind) h (omega arith),
+        big-endian-more (layout .startAt) (omega arith),
+        big-endian-more
+            (layout .askedAt) (omega arith),
+        big-endian-more (layout .allowedAt) (omega arith),
+      )
 
   frame-more : layout .frameBytes ≤ length s - i → frameAt (s ++ t) i ≡ frameAt s i
   unfolding frameAt
@@ -85,21 +98,27 @@ module _ (s t : List ℕ) (i : ℕ) where
     same = ap (bigEndianAt (s ++ t)) (sym (add-zero i)) ∙ big-endian-more 0 (omega arith) ∙ ap (bigEndianAt s) (add-zero i)
 
     order-same : readAt s i ≢ Refused 6 → bigEndianAt s i ≡ layout .orderLength → Dec (length s - i < layout .orderBytes) → readAt (s ++ t) i ≡ readAt s i
-    order-same c n (yes m) = absurd (c (sym (order-refused s i 6 (refused-short s i _ _ m) (λ (z : _≡_ {A = ℕ} 6 0). omega arith) ∙ an-order s i h (omega arith) n)))
+    order-same c n (yes m) =
+        absurd (c (sym (order-refused s i 6 (refused-short s i _ _ m) (λ (z : _≡_ {A = ℕ} 6 0). omega arith) ∙ an-order s i h (omega arith) n)))
     order-same c n (no m) = sym (an-order (s ++ t) i here there (same ∙ n)) ∙ order-more (omega arith) ∙ an-order s i h (omega arith) n
 
     module _ (n : bigEndianAt s i ≡ layout .orderLength → ⊥) where
       frame-same : readAt s i ≢ Refused 6 → bigEndianAt s i ≡ layout .frameLength → Dec (length s - i < layout .frameBytes) → readAt (s ++ t) i ≡ readAt s i
-      frame-same c f (yes m) = absurd (c (sym (frame-refused s i 6 (refused-short s i _ _ m) (λ (z : _≡_ {A = ℕ} 6 0). omega arith) ∙ a-frame s i h (omega arith) n f)))
-      frame-same c f (no m) = sym (a-frame (s ++ t) i here there (λ z. n (sym same ∙ z)) (same ∙ f)) ∙ frame-more (omega arith) ∙ a-frame s i h (omega arith) n f
+      frame-same c f (yes m) =
+          absurd (c (sym (frame-refused s i 6 (refused-short s i _ _ m) (λ (z : _≡_ {A = ℕ} 6 0). omega arith) ∙ a-frame s i h (omega arith) n f)))
+      frame-same c f (no m) =
+          sym (a-frame (s ++ t) i here there (λ z. n (sym same ∙ z)) (same ∙ f)) ∙ frame-more (omega arith) ∙ a-frame s i h (omega arith) n f
 
       unlawful-same : (bigEndianAt s i ≡ layout .frameLength → ⊥) → readAt (s ++ t) i ≡ readAt s i
       unlawful-same f = sym (no-lawful (s ++ t) i here there (λ z. n (sym same ∙ z)) (λ z. f (sym same ∙ z))) ∙ no-lawful s i h (omega arith) n f
 
 pub reads-with-more : ReadsWithMore
-reads-with-more s t i e c = at (decLt i (length s)) (decLt (length s - i) (layout .lengthBytes)) (ℕ-discrete (bigEndianAt s i) (layout .orderLength)) (ℕ-discrete (bigEndianAt s i) (layout .frameLength))
+reads-with-more s t i e c =
+    at (decLt i (length s)) (decLt (length s - i) (layout .lengthBytes)) (ℕ-discrete (bigEndianAt s i) (layout .orderLength))
+    (ℕ-discrete (bigEndianAt s i) (layout .frameLength))
   where
-    at : Dec (i < length s) → Dec (length s - i < layout .lengthBytes) → Dec (bigEndianAt s i ≡ layout .orderLength) → Dec (bigEndianAt s i ≡ layout .frameLength) → readAt (s ++ t) i ≡ readAt s i
+    at : Dec (i < length s) → Dec (length s - i < layout .lengthBytes) → Dec (bigEndianAt s i ≡ layout .orderLength)
+        → Dec (bigEndianAt s i ≡ layout .frameLength) → readAt (s ++ t) i ≡ readAt s i
     at (no h) l n f = absurd (e (sym (at-end s i (omega arith))))
     at (yes h) (yes l) n f = absurd (c (sym (no-length s i h l)))
     at (yes h) (no l) (yes n) f = order-same s t i h l c n (decLt (length s - i) (layout .orderBytes))
@@ -126,7 +145,8 @@ module _ (s : List ℕ) where
     taken = length-take-le bytes s h
 
     big-endian-taken : bigEndianAt s 0 ≡ bigEndianAt (take bytes s) 0
-    big-endian-taken = ap (λ (x : List ℕ). bigEndianAt x 0) (sym (take-append-drop bytes s)) ∙ big-endian-more (take bytes s) (drop bytes s) 0 0 (rw taken (omega arith))
+    big-endian-taken =
+        ap (λ (x : List ℕ). bigEndianAt x 0) (sym (take-append-drop bytes s)) ∙ big-endian-more (take bytes s) (drop bytes s) 0 0 (rw taken (omega arith))
 
   order-wanted : bigEndianAt s 0 ≡ layout .orderLength → Dec (length s < layout .orderBytes) → readAt (take (layout .orderBytes) s) 0 ≡ readAt s 0
   order-wanted n (yes h) = ap (λ (x : List ℕ). readAt x 0) (take-all (layout .orderBytes) s (omega arith))
@@ -136,7 +156,8 @@ module _ (s : List ℕ) where
       ∙ sym (order-more (take (layout .orderBytes) s) (drop (layout .orderBytes) s) 0 (omega arith))
       ∙ ap (λ (x : List ℕ). orderAt x 0) (take-append-drop (layout .orderBytes) s) ∙ an-order s 0 (omega arith) (omega arith) n
 
-  frame-wanted : (bigEndianAt s 0 ≡ layout .orderLength → ⊥) → bigEndianAt s 0 ≡ layout .frameLength → Dec (length s < layout .frameBytes) → readAt (take (layout .frameBytes) s) 0 ≡ readAt s 0
+  frame-wanted : (bigEndianAt s 0 ≡ layout .orderLength → ⊥) → bigEndianAt s 0 ≡ layout .frameLength → Dec (length s < layout .frameBytes)
+      → readAt (take (layout .frameBytes) s) 0 ≡ readAt s 0
   frame-wanted n f (yes h) = ap (λ (x : List ℕ). readAt x 0) (take-all (layout .frameBytes) s (omega arith))
   frame-wanted n f (no h) =
       let t = taken (layout .frameBytes) (omega arith) (omega arith) in
@@ -145,19 +166,23 @@ module _ (s : List ℕ) where
       ∙ sym (frame-more (take (layout .frameBytes) s) (drop (layout .frameBytes) s) 0 (omega arith))
       ∙ ap (λ (x : List ℕ). frameAt x 0) (take-append-drop (layout .frameBytes) s) ∙ a-frame s 0 (omega arith) (omega arith) n f
 
-  unlawful-wanted : layout .lengthBytes ≤ length s → (bigEndianAt s 0 ≡ layout .orderLength → ⊥) → (bigEndianAt s 0 ≡ layout .frameLength → ⊥) → readAt (take (layout .lengthBytes) s) 0 ≡ readAt s 0
+  unlawful-wanted : layout .lengthBytes ≤ length s → (bigEndianAt s 0 ≡ layout .orderLength → ⊥) → (bigEndianAt s 0 ≡ layout .frameLength → ⊥)
+      → readAt (take (layout .lengthBytes) s) 0 ≡ readAt s 0
   unlawful-wanted h n f =
       let t = taken (layout .lengthBytes) h (omega arith) in
       let e = big-endian-taken (layout .lengthBytes) h (omega arith) in
-      sym (no-lawful (take (layout .lengthBytes) s) 0 (omega arith) (omega arith) (λ z. n (e ∙ z)) (λ z. f (e ∙ z))) ∙ no-lawful s 0 (omega arith) (omega arith) n f
+      sym (no-lawful (take (layout .lengthBytes) s) 0 (omega arith) (omega arith) (λ z. n (e ∙ z)) (λ z. f (e ∙ z)))
+      ∙ no-lawful s 0 (omega arith) (omega arith) n f
 
   piece-reads : readAt (take (wanted s) s) 0 ≡ readAt s 0
-  piece-reads = at (decLt (length s) (layout .lengthBytes)) (ℕ-discrete (bigEndianAt s 0) (layout .orderLength)) (ℕ-discrete (bigEndianAt s 0) (layout .frameLength))
+  piece-reads =
+      at (decLt (length s) (layout .lengthBytes)) (ℕ-discrete (bigEndianAt s 0) (layout .orderLength)) (ℕ-discrete (bigEndianAt s 0) (layout .frameLength))
     where
       to : (n : ℕ) → n ≡ wanted s → readAt (take n s) 0 ≡ readAt s 0 → readAt (take (wanted s) s) 0 ≡ readAt s 0
       to n e h = ap (λ (w : ℕ). readAt (take w s) 0) (sym e) ∙ h
 
-      at : Dec (length s < layout .lengthBytes) → Dec (bigEndianAt s 0 ≡ layout .orderLength) → Dec (bigEndianAt s 0 ≡ layout .frameLength) → readAt (take (wanted s) s) 0 ≡ readAt s 0
+      at : Dec (length s < layout .lengthBytes) → Dec (bigEndianAt s 0 ≡ layout .orderLength) → Dec (bigEndianAt s 0 ≡ layout .frameLength)
+          → readAt (take (wanted s) s) 0 ≡ readAt s 0
       at (yes l) n f = to _ (wanted-first s l) (ap (λ (x : List ℕ). readAt x 0) (take-all (layout .lengthBytes) s (omega arith)))
       at (no l) (yes n) f = to _ (wanted-order s (omega arith) n) (order-wanted n (decLt (length s) (layout .orderBytes)))
       at (no l) (no n) (yes f) = to _ (wanted-frame s (omega arith) n f) (frame-wanted n f (decLt (length s) (layout .frameBytes)))
@@ -171,9 +196,11 @@ wanted-reads s = (
       let F = frame-found s 0 e in
       let w = F .whole .inside in
       let at = F .from-is in
-      let all : layout .frameBytes ≡ wanted s = wanted-frame s (omega arith) (λ (z : bigEndianAt s 0 ≡ layout .orderLength). let q = F .length in omega arith) (F .length) in (
+      let all : layout .frameBytes ≡ wanted s = wanted-frame s (omega arith) (λ (z : bigEndianAt s 0 ≡ layout .orderLength). let q = F .length in omega arith)
+      (F .length) in (
         F .next-is ∙ all,
-        sym (symbols-more (take (wanted s) s) (drop (wanted s) s) from (let t : length (take (wanted s) s) ≡ wanted s = length-take-le (wanted s) s (omega arith) in omega arith))
+        sym (symbols-more (take (wanted s) s) (drop (wanted s) s) from (let t : length (take (wanted s) s)
+            ≡ wanted s = length-take-le (wanted s) s (omega arith) in omega arith))
             ∙ ap (λ (x : List ℕ). symbolsAt x from) (take-append-drop (wanted s) s),
       ),
 )

@@ -21,7 +21,8 @@ pub order-reads : OrderReads
 unfolding orderRecord bigEndian tabulate bigEndianAt value
 order-reads start asked allowed rest hs ha hw =
     sym
-    (order-read r 0 start asked allowed (not-refused r 0 _ _ (omega arith) refl refl) (sym (value-digits 256 4 start hs)) (sym (value-digits 256 4 asked ha)) (sym (value-digits 256 4 allowed hw))
+    (order-read r 0 start asked allowed (not-refused r 0 _ _ (omega arith) refl refl) (sym (value-digits 256 4 start hs)) (sym (value-digits 256 4 asked ha))
+    (sym (value-digits 256 4 allowed hw))
     ∙ an-order r 0 (omega arith) (omega arith) refl)
   where
     r : List ℕ
@@ -68,7 +69,8 @@ module _ (s : List ℕ) (B : AllBytes s) where
   head-stands : (bytes kind : ℕ) → Whole s 0 bytes kind → layout .kindAt < bytes
       → drop (layout .versionAt) s ≡ layout .version ∷ kind ∷ drop (suc (layout .kindAt)) s
   head-stands bytes kind W h =
-      drop-cons s (layout .versionAt) 0 (omega arith) ∙ (λ k. W .version k ∷ (drop-cons s (layout .kindAt) 0 (omega arith) ∙ ap (λ (x : ℕ). x ∷ drop (suc (layout .kindAt)) s) (W .kind)) k)
+      drop-cons s (layout .versionAt) 0 (omega arith)
+      ∙ (λ k. W .version k ∷ (drop-cons s (layout .kindAt) 0 (omega arith) ∙ ap (λ (x : ℕ). x ∷ drop (suc (layout .kindAt)) s) (W .kind)) k)
 
   order-bytes : {start asked allowed next : ℕ} → OrderStands s 0 start asked allowed next → s ≡ orderRecord start asked allowed ++ drop next s
   unfolding orderRecord bigEndian tabulate
@@ -145,14 +147,19 @@ module _ (numbers : ℕ → ℕ) (frames : ℕ → List ℕ) where
       last : List ℕ
       last = frameRecord (numbers n) (frames n)
 
-      at : (k < n → (behind : List ℕ) × (drop (k * layout .frameBytes) (frameRecords numbers frames n ++ (last ++ rest)) ≡ frameRecord (numbers k) (frames k) ++ behind))
+      at : (k < n → (behind : List ℕ) × (drop (k * layout .frameBytes) (frameRecords numbers frames n ++ (last ++ rest))
+          ≡ frameRecord (numbers k) (frames k) ++ behind))
           → Dec (k < n)
           → (behind : List ℕ)
           × (drop (k * layout .frameBytes) ((frameRecords numbers frames n ++ last) ++ rest) ≡ frameRecord (numbers k) (frames k) ++ behind)
       at earlier (yes m) = rw append-assoc (earlier m)
       at earlier (no m) =
           let e : k ≡ n = omega arith in
-          rw (append-assoc, e) (rest, drop-at (frameRecords numbers frames n) (last ++ rest) (n * layout .frameBytes) (frames-length n (λ j o. h j (omega arith))))
+          rw (append-assoc, e) (
+            rest,
+            drop-at (frameRecords numbers frames n) (last ++ rest) (n * layout .frameBytes)
+                (frames-length n (λ j o. h j (omega arith))),
+          )
 
 pub frames-read : FramesRead
 unfolding shifted
@@ -167,4 +174,12 @@ frames-read n numbers frames before rest h k i l e =
     )
 
 pub records : Records
-records = record { orderReads = order-reads; frameReads = frame-reads; orderFound = order-stands; frameFound = frame-stands; framesRead = frames-read; recordLengths = (order-length, frame-length, λ n numbers frames. frames-length numbers frames n) }
+records =
+    record {
+      orderReads = order-reads;
+      frameReads = frame-reads;
+      orderFound = order-stands;
+      frameFound = frame-stands;
+      framesRead = frames-read;
+      recordLengths = (order-length, frame-length, λ n numbers frames. frames-length numbers frames n);
+    }

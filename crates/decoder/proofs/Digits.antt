@@ -23,7 +23,8 @@ pub digit-law : (t : List ℕ) → IsRemainders t → (k w a b : ℕ) → k < 7 
     → bitXor a b ≡ feedOf (w % 65536) (16 * k + 16) 0
 digit-law t T k w a b h ea eb =
     ap₂ bitXor (ea ∙ at (2 * k) (512 * k + w % 256) (w % 256) (omega arith) (omega arith) (omega arith) ∙ ap (λ (n : ℕ). feedOf (w % 256) n 0) even)
-    (eb ∙ at (2 * k + 1) (512 * k + 256 + w / 256 % 256) (w / 256 % 256) (omega arith) (omega arith) (omega arith) ∙ ap (λ (n : ℕ). feedOf (w / 256 % 256) n 0) odd)
+    (eb ∙ at (2 * k + 1) (512 * k + 256 + w / 256 % 256) (w / 256 % 256) (omega arith) (omega arith) (omega arith)
+    ∙ ap (λ (n : ℕ). feedOf (w / 256 % 256) n 0) odd)
     ∙ ap (bitXor (feedOf (w % 256) (16 * k + 16) 0)) above
     ∙ sym (feed-xor (w % 256) (w / 256 % 256 * 256) (16 * k + 16) 0 0 (omega arith) (omega arith)) ∙ ap (λ (r : ℕ). feedOf r (16 * k + 16) 0) whole
   where
@@ -41,7 +42,8 @@ digit-law t T k w a b h ea eb =
     above =
         let fits : (w / 256 % 256 + 1) * 2 ^ 8 ≤ 65536 = omega arith in
         let plain : feedOf (w / 256 % 256) 8 0 ≡ w / 256 % 256 * 256 = feed-plain (w / 256 % 256) 8 0 fits (lit< tt) ∙ add-zero (w / 256 % 256 * 256) in
-        sym (ap (λ (r : ℕ). feedOf r (16 * k + 16) 0) (sym plain) ∙ feed-append (w / 256 % 256) 8 (16 * k + 16) 0 0 (pow-pos (16 * k + 16)) ∙ ap (feedOf (w / 256 % 256) (8 + (16 * k + 16))) (rw (zero-mul) refl))
+        sym (ap (λ (r : ℕ). feedOf r (16 * k + 16) 0) (sym plain) ∙ feed-append (w / 256 % 256) 8 (16 * k + 16) 0 0 (pow-pos (16 * k + 16))
+        ∙ ap (feedOf (w / 256 % 256) (8 + (16 * k + 16))) (rw (zero-mul) refl))
 
     whole : bitXor (w % 256) (w / 256 % 256 * 256) ≡ w % 65536
     whole =
@@ -68,11 +70,13 @@ module _ (hi lo : ℕ) (h : hi < 2 ^ 62) (l : lo < 2 ^ 64) where
 
   pub syndrome-law : (a b c d e f g : ℕ)
       → a ≡ feedOf (lo / 65536 % 65536) 16 0 → b ≡ feedOf (lo / 4294967296 % 65536) 32 0 → c ≡ feedOf (lo / 281474976710656 % 65536) 48 0
-      → d ≡ feedOf (hi % 65536) 64 0 → e ≡ feedOf (hi / 65536 % 65536) 80 0 → f ≡ feedOf (hi / 4294967296 % 65536) 96 0 → g ≡ feedOf (hi / 281474976710656 % 65536) 112 0
+      → d ≡ feedOf (hi % 65536) 64 0 → e ≡ feedOf (hi / 65536 % 65536) 80 0 → f ≡ feedOf (hi / 4294967296 % 65536) 96 0
+      → g ≡ feedOf (hi / 281474976710656 % 65536) 112 0
       → bitXor (bitXor (bitXor (bitXor (bitXor (bitXor (bitXor (lo % 65536) a) b) c) d) e) f) g ≡ remainder 126 (hi * 2 ^ 64 + lo)
   unfolding word
   syndrome-law a b c d e f g ea eb ec ed ee ef eg =
-      more 112 (more 96 (more 80 (more 64 (more 48 (more 32 (more 16 first ea (lower 32 16 refl)) eb (lower 16 32 refl)) ec (lower 0 48 refl)) ed (zeroth ∙ upper 0)) ee (upper 16)) ef (upper 32)) eg (upper 48)
+      more 112 (more 96 (more 80 (more 64 (more 48 (more 32 (more 16 first ea (lower 32 16 refl)) eb (lower 16 32 refl)) ec (lower 0 48 refl)) ed
+      (zeroth ∙ upper 0)) ee (upper 16)) ef (upper 32)) eg (upper 48)
       ∙ remainder-lead 2 126 word (digits-lt h l)
     where
       first : lo % 65536 ≡ remainder 16 word

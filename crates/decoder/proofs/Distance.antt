@@ -10,14 +10,15 @@ use lib.Dec.{lit<}
 use lib.Pow.{pow-lt}
 use lib.Bits.{bitXor, xor-comm, xor-lt, xor-self}
 use Rattle.bits.proofs.Xor.{xor-assoc, xor-cancel, xor-zero-eq}
-use Rattle.bits.proofs.Weight.{weight, weight-zero, weight-power, weight-powers, weight-twice, weight-lead, weight-sum, weight-odd, weight-differs, powers-xor, Light, Light.none, Light.single, Light.double, light, parts}
+use Rattle.bits.proofs.Weight.{weight, weight-zero, weight-power, weight-powers, weight-twice, weight-lead, weight-sum, weight-odd, weight-differs, powers-xor}
+use Rattle.bits.proofs.Weight.{Light, Light.none, Light.single, Light.double, light, parts}
 use Rattle.bch.specs.definitions.Code.{generator, multiple, CodeWord, remainder, distance}
 use Rattle.decoder.specs.definitions.Mend.{flagOf}
-use Rattle.decoder.specs.private.Answer.{Pattern, columns}
+use Rattle.decoder.specs.private.Answer.{Pattern, remainderOf}
 use Rattle.decoder.specs.declared.Mend.{Mend}
 use Rattle.decoder.specs.declared.Mend.the-variants.{Clean, One, Two, Flagged}
 use Rattle.bch.proofs.Remainder.{remainder-xor, code-remainder, code-lt}
-use Rattle.decoder.proofs.Patterns.{mask, columns-mask, columns-apart}
+use Rattle.decoder.proofs.Patterns.{mask, remainder-mask, patterns-apart}
 
 pub distance-weight : (v w : ℕ) → distance v w ≡ weight 126 (bitXor v w)
 unfolding distance
@@ -119,9 +120,9 @@ code-four n h e w =
     let r : remainder 126 (p .one) ≡ remainder 126 (p .other) =
     xor-zero-eq (remainder 126 (p .one)) (remainder 126 (p .other))
     (sym (remainder-xor 126 (p .one) (p .other)) ∙ ap (remainder 126) (sym (p .sum)) ∙ e) in
-    let c : columns (a .pattern) ≡ columns (b .pattern) =
-    columns-mask (a .pattern) ∙ ap (remainder 126) (a .bits) ∙ r ∙ sym (ap (remainder 126) (b .bits)) ∙ sym (columns-mask (b .pattern)) in
-    let same : p .one ≡ p .other = sym (a .bits) ∙ ap mask (columns-apart (a .pattern) (b .pattern) (a .is) (b .is) c) ∙ b .bits in
+    let c : remainderOf (a .pattern) ≡ remainderOf (b .pattern) =
+    remainder-mask (a .pattern) ∙ ap (remainder 126) (a .bits) ∙ r ∙ sym (ap (remainder 126) (b .bits)) ∙ sym (remainder-mask (b .pattern)) in
+    let same : p .one ≡ p .other = sym (a .bits) ∙ ap mask (patterns-apart (a .pattern) (b .pattern) (a .is) (b .is) c) ∙ b .bits in
     p .sum ∙ ap (bitXor (p .one)) (sym same) ∙ xor-self (p .one)
 
 pub code-apart : (c d : ℕ) → CodeWord c → CodeWord d → c ≢ d → 6 ≤ distance c d

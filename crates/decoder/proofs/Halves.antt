@@ -1,4 +1,4 @@
--- A word in two numbers: a bit turned over, and what it decodes to.
+-- A word in two numbers: a bit flipped, and what it decodes to.
 -- Assumes nothing.
 use mathlib.Core.Path.{_≡_, sym, ap, _∙_, subst}
 use mathlib.Core.List.{List}
@@ -18,7 +18,7 @@ use Rattle.decoder.specs.declared.Mend.{Mend}
 use Rattle.bch.proofs.Remainder.{remainder-lt}
 use Rattle.decoder.proofs.Patterns.{answers-unique, mend-answers}
 
--- ---- a bit turned over
+-- ---- a bit flipped
 
 pub flip-law : (t : List ℕ) → IsBit t → (hi lo i : ℕ) → hi < 2 ^ 62 → lo < 2 ^ 64 → i < 126
     → (bitXor hi (getD t (2 * i) 0) * 2 ^ 64 + bitXor lo (getD t (2 * i + 1) 0) ≡ flipped i (hi * 2 ^ 64 + lo)) × (bitXor hi (getD t (2 * i) 0) < 2 ^ 62)

@@ -3,7 +3,8 @@
 use mathlib.Core.Path.{_≡_, refl, sym, ap, ap₂, _∙_, subst}
 use mathlib.Core.Bool.{Bool, true, false, cond}
 use mathlib.Core.Logic.{_⊎_, inl, inr, ⊎-elim}
-use mathlib.Core.List.{List, _++_, List·Memᴰ, List·Memᴰ.List·Memᴰ·head, List·Memᴰ.List·Memᴰ·tail, List·Memᴰ·cases-cons, List·Memᴰ·append-cases, Memᴰ·append-left, Memᴰ·append-right}
+use mathlib.Core.List.{List, _++_, List·Memᴰ, List·Memᴰ.List·Memᴰ·head, List·Memᴰ.List·Memᴰ·tail, List·Memᴰ·cases-cons, List·Memᴰ·append-cases}
+use mathlib.Core.List.{Memᴰ·append-left, Memᴰ·append-right}
 use Prim.Native.Nat.{ℕ, suc, _+_, _-_, _^_, _<_, _≤_}
 use native.Mathlib.Omega.{arith}
 use lib.Dec.{eqb, ltb, leb}
@@ -16,13 +17,20 @@ use Rattle.bits.proofs.First.{Found, None, first-cases, first-cong, in-tabulate
 use Rattle.bch.specs.definitions.Code.{CodeWord, remainder, flipped}
 use Rattle.decoder.specs.definitions.Mend.{pairs, patterns, mended, isCode, mend}
 use Rattle.decoder_tables.specs.private.Tables.{column, IsColumns, Finds, locatedPair, risingOf}
-use Rattle.decoder.specs.private.Answer.{columns, Pattern, Answers, Within, placesOf, confirmed}
+use Rattle.decoder.specs.private.Answer.{remainderOf, Pattern, Answers, Within, confirmed}
 use Rattle.decoder_tables.specs.declared.Pair.{Pair}
 use Rattle.decoder.specs.declared.Mend.{Mend}
 use Rattle.decoder.specs.declared.Mend.the-variants.{Clean, One, Two, Flagged}
 use Rattle.bch.proofs.Remainder.{remainder-xor, remainder-zero, remainder-code-xor}
 use Rattle.decoder_tables.proofs.Lists.{field, log, ratio}
 use Rattle.decoder_tables.proofs.Entries.{finds}
+
+-- the places of a pattern's bits, the one bit's twice; beyond the word where there is no bit
+unfoldable pub placesOf : Mend → Pair
+placesOf Clean = record { low = 126; high = 126 }
+placesOf (One i) = record { low = i; high = i }
+placesOf (Two i j) = record { low = i; high = j }
+placesOf Flagged = record { low = 126; high = 126 }
 
 -- the word whose bits are the pattern's
 unfoldable pub mask : Mend → ℕ
@@ -38,12 +46,12 @@ mended-mask w (One i) = refl
 mended-mask w (Two i j) = xor-assoc w (2 ^ (125 - i)) (2 ^ (125 - j))
 mended-mask w Flagged = sym (xor-zero-r w)
 
-pub columns-mask : (m : Mend) → columns m ≡ remainder 126 (mask m)
-unfolding mask columns column
-columns-mask Clean = sym (remainder-zero 126)
-columns-mask (One i) = refl
-columns-mask (Two i j) = sym (remainder-xor 126 (2 ^ (125 - i)) (2 ^ (125 - j)))
-columns-mask Flagged = sym (remainder-zero 126)
+pub remainder-mask : (m : Mend) → remainderOf m ≡ remainder 126 (mask m)
+unfolding mask remainderOf column
+remainder-mask Clean = sym (remainder-zero 126)
+remainder-mask (One i) = refl
+remainder-mask (Two i j) = sym (remainder-xor 126 (2 ^ (125 - i)) (2 ^ (125 - j)))
+remainder-mask Flagged = sym (remainder-zero 126)
 
 -- ---- no two patterns have the same remainder
 
@@ -66,18 +74,18 @@ places-apart m n P Q e = go m n P Q (ap (λ (p : Pair). p .low) e) (ap (λ (p : 
     go (Two i k) Flagged P Q e f = absurd Q
     go Flagged n P Q e f = absurd P
 
-pub finds-places : {field log ratio : List ℕ} → Finds field log ratio → (m : Mend) → Pattern m → locatedPair field log ratio (columns m) ≡ placesOf m
-unfolding Pattern columns placesOf
+pub finds-places : {field log ratio : List ℕ} → Finds field log ratio → (m : Mend) → Pattern m → locatedPair field log ratio (remainderOf m) ≡ placesOf m
+unfolding Pattern remainderOf placesOf
 finds-places F Clean P = F .none
 finds-places F (One i) h = F .one i h
 finds-places F (Two i j) (l, h) = F .two i j l h
 finds-places F Flagged P = absurd P
 
-pub columns-apart : (m n : Mend) → Pattern m → Pattern n → columns m ≡ columns n → m ≡ n
-columns-apart m n P Q e = places-apart m n P Q (sym (finds-places finds m P) ∙ ap (locatedPair field log ratio) e ∙ finds-places finds n Q)
+pub patterns-apart : (m n : Mend) → Pattern m → Pattern n → remainderOf m ≡ remainderOf n → m ≡ n
+patterns-apart m n P Q e = places-apart m n P Q (sym (finds-places finds m P) ∙ ap (locatedPair field log ratio) e ∙ finds-places finds n Q)
 
 pub answers-unique : (s : ℕ) (m n : Mend) → Answers s m → Answers s n → m ≡ n
-answers-unique s m n (inl (P, e)) (inl (Q, f)) = columns-apart m n P Q (e ∙ sym f)
+answers-unique s m n (inl (P, e)) (inl (Q, f)) = patterns-apart m n P Q (e ∙ sym f)
 answers-unique s m n (inl (P, e)) (inr (f, none)) = absurd (none m P e)
 answers-unique s m n (inr (e, none)) (inl (Q, f)) = absurd (none n Q f)
 answers-unique s m n (inr (e, a)) (inr (f, b)) = e ∙ sym f
@@ -99,8 +107,8 @@ rising-order x y = go (leb x y) refl
     go false e = let h = leb-false x y e in omega arith
 
 -- a pattern's places are confirmed
-confirmed-right : (m : Mend) (s : ℕ) → Pattern m → (s ≡ 0 → ⊥) → columns m ≡ s → confirmed s (placesOf m) ≡ m
-unfolding Pattern columns confirmed placesOf
+confirmed-right : (m : Mend) (s : ℕ) → Pattern m → (s ≡ 0 → ⊥) → remainderOf m ≡ s → confirmed s (placesOf m) ≡ m
+unfolding Pattern remainderOf confirmed placesOf
 confirmed-right Clean s P z e = absurd (z (sym e))
 confirmed-right (One i) s P z e = simp (lt-ltb i 126 P, eq-eqb i i refl, eq-eqb (column i) s e)
 confirmed-right (Two i j) s (l, h) z e =
@@ -108,8 +116,8 @@ confirmed-right (Two i j) s (l, h) z e =
 confirmed-right Flagged s P z e = absurd P
 
 -- and what is confirmed is a pattern with that remainder
-confirmed-sound : (s : ℕ) (p : Pair) → p .low ≤ p .high → (confirmed s p ≡ Flagged) ⊎ (Pattern (confirmed s p) × (columns (confirmed s p) ≡ s))
-unfolding Pattern columns confirmed
+confirmed-sound : (s : ℕ) (p : Pair) → p .low ≤ p .high → (confirmed s p ≡ Flagged) ⊎ (Pattern (confirmed s p) × (remainderOf (confirmed s p) ≡ s))
+unfolding Pattern remainderOf confirmed
 confirmed-sound s p h =
     go (ltb j 126) (eqb i j) (eqb (column i) s) (eqb (bitXor (column i) (column j)) s) refl refl refl refl
   where
@@ -123,7 +131,7 @@ confirmed-sound s p h =
     answer a b c d = cond a (cond b (cond c (One i) Flagged) (cond d (Two i j) Flagged)) Flagged
 
     go : (a b c d : Bool) → ltb j 126 ≡ a → eqb i j ≡ b → eqb (column i) s ≡ c → eqb (bitXor (column i) (column j)) s ≡ d
-        → (answer a b c d ≡ Flagged) ⊎ (Pattern (answer a b c d) × (columns (answer a b c d) ≡ s))
+        → (answer a b c d ≡ Flagged) ⊎ (Pattern (answer a b c d) × (remainderOf (answer a b c d) ≡ s))
     go false b c d ea eb ec ed = inl refl
     go true true false d ea eb ec ed = inl refl
     go true true true d ea eb ec ed = let l = ltb-true j 126 ea in inr (omega arith, eqb-true (column i) s ec)
@@ -141,7 +149,7 @@ module _ (field log ratio : List ℕ) (s : ℕ) (p : Pair) (e : p ≡ locatedPai
   unfolding Pattern
   found-answers F z = ⊎-elim (λ f. inr (f, none f)) (λ g. inl g) (confirmed-sound s p pair-order)
     where
-      none : confirmed s p ≡ Flagged → (m : Mend) → Pattern m → columns m ≡ s → ⊥
+      none : confirmed s p ≡ Flagged → (m : Mend) → Pattern m → remainderOf m ≡ s → ⊥
       none f m P c =
           let at : p ≡ placesOf m = e ∙ ap (locatedPair field log ratio) (sym c) ∙ finds-places F m P in
           subst Pattern (sym (ap (confirmed s) at ∙ confirmed-right m s P z c) ∙ f) P
@@ -193,8 +201,8 @@ of-patterns m k = go (List·Memᴰ·cases-cons k)
         (List·Memᴰ·append-cases (tabulate 126 One) k)
 
 -- a pattern makes w a code word exactly if it has w's remainder
-mended-remainder : (w : ℕ) (m : Mend) → remainder 126 (mended w m) ≡ bitXor (remainder 126 w) (columns m)
-mended-remainder w m = ap (remainder 126) (mended-mask w m) ∙ remainder-xor 126 w (mask m) ∙ ap (bitXor (remainder 126 w)) (sym (columns-mask m))
+mended-remainder : (w : ℕ) (m : Mend) → remainder 126 (mended w m) ≡ bitXor (remainder 126 w) (remainderOf m)
+mended-remainder w m = ap (remainder 126) (mended-mask w m) ∙ remainder-xor 126 w (mask m) ∙ ap (bitXor (remainder 126 w)) (sym (remainder-mask m))
 
 pub mend-answers : (w : ℕ) → Answers (remainder 126 w) (mend w)
 unfolding mend
@@ -210,7 +218,7 @@ mend-answers w = go (first-cases test patterns Flagged)
     go (inl f) =
         inl (
           of-patterns m (f .member),
-          sym (xor-zero-eq (remainder 126 w) (columns m) (sym (mended-remainder w m) ∙ eqb-true (remainder 126 (mended w m)) 0 (f .passes))),
+          sym (xor-zero-eq (remainder 126 w) (remainderOf m) (sym (mended-remainder w m) ∙ eqb-true (remainder 126 (mended w m)) 0 (f .passes))),
         )
     go (inr n) =
         inr (

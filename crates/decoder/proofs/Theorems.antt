@@ -21,30 +21,31 @@ use Rattle.bch.specs.definitions.Code.{CodeWord, multiple, distance, remainder,
 use Rattle.decoder.specs.definitions.Mend.{mend, mended, flagOf}
 use Rattle.bch.specs.definitions.Word.{informationOf, codedFrame}
 use Rattle.decoder.specs.definitions.Word.{decoded, mendedFrame, flagsOf}
-use Rattle.decoder.specs.private.Answer.{Pattern, columns, Answers}
-use Rattle.decoder.specs.statements.Word.{MendsTwo, FlaggedExactly, MendedIsCode, FlaggedPasses, TwoVanish, SmallestDistance, ThreeFlagged, FlipsAlone, WordCalls, FrameCalls}
+use Rattle.decoder.specs.private.Answer.{Pattern, remainderOf, Answers}
+use Rattle.decoder.specs.statements.Word.{MendsTwo, FlaggedExactly, MendedIsCode, FlaggedPasses, TwoVanish, SmallestDistance, ThreeFlagged, FlipsAlone}
+use Rattle.decoder.specs.statements.Word.{WordCalls, FrameCalls}
 use Rattle.decoder.specs.declared.Mend.{Mend}
 use Rattle.decoder.specs.declared.Mend.the-variants.{Clean, One, Two, Flagged}
 use Rattle.bch.proofs.Theorems.{sent-is-code}
 use Rattle.bch.proofs.Remainder.{remainder-lt, remainder-xor, remainder-own, remainder-lead, remainder-code, remainder-code-xor, code-lt}
-use Rattle.decoder.proofs.Patterns.{mask, mended-mask, columns-mask, answers-unique, mend-answers, mend-code}
+use Rattle.decoder.proofs.Patterns.{mask, mended-mask, remainder-mask, answers-unique, mend-answers, mend-code}
 use Rattle.decoder.proofs.Distance.{distance-weight, distance-comm, distance-through, light-pattern, mask-lt, mask-weight, flag-pattern, code-apart}
 
 pub mends-two : MendsTwo
 mends-two c w C h d =
     let p = light-pattern (bitXor w c) (xor-lt 126 w c h (code-lt C)) (omega (arith, distance-weight w c)) in
-    let r : columns (p .pattern) ≡ remainder 126 w =
-    columns-mask (p .pattern) ∙ ap (remainder 126) (p .bits ∙ xor-comm w c) ∙ remainder-code-xor w C in
+    let r : remainderOf (p .pattern) ≡ remainder 126 w =
+    remainder-mask (p .pattern) ∙ ap (remainder 126) (p .bits ∙ xor-comm w c) ∙ remainder-code-xor w C in
     let m : mend w ≡ p .pattern = answers-unique (remainder 126 w) (mend w) (p .pattern) (mend-answers w) (inl (p .is, r)) in (
       ap (mended w) m ∙ mended-mask w (p .pattern) ∙ ap (bitXor w) (p .bits) ∙ xor-cancel w c,
       ap flagOf m ∙ sym (mask-weight (p .pattern) (p .is)) ∙ ap (weight 126) (p .bits) ∙ sym (distance-weight w c),
     )
 
 -- a pattern that has the remainder of w makes it a code word, as far away as the pattern has bits
-mended-code : (w : ℕ) (m : Mend) → w < 2 ^ 126 → Pattern m → columns m ≡ remainder 126 w → CodeWord (mended w m) × (distance w (mended w m) ≡ flagOf m)
+mended-code : (w : ℕ) (m : Mend) → w < 2 ^ 126 → Pattern m → remainderOf m ≡ remainder 126 w → CodeWord (mended w m) × (distance w (mended w m) ≡ flagOf m)
 mended-code w m h P e = (
   remainder-code (subst (λ (x : ℕ). x < 2 ^ 126) (sym (mended-mask w m)) (xor-lt 126 w (mask m) h (mask-lt m P)))
-      (ap (remainder 126) (mended-mask w m) ∙ remainder-xor 126 w (mask m) ∙ ap (bitXor (remainder 126 w)) (sym (columns-mask m) ∙ e)
+      (ap (remainder 126) (mended-mask w m) ∙ remainder-xor 126 w (mask m) ∙ ap (bitXor (remainder 126 w)) (sym (remainder-mask m) ∙ e)
       ∙ xor-self (remainder 126 w)),
   distance-weight w (mended w m) ∙ ap (weight 126) (ap (bitXor w) (mended-mask w m) ∙ xor-cancel w (mask m)) ∙ mask-weight m P,
 )
@@ -133,8 +134,14 @@ pub word-calls : WordCalls
 unfolding decoded
 word-calls hi lo h =
     let w : wordOf hi lo < 2 ^ 126 = word-lt hi lo h in
-    let v = mended-lt (wordOf hi lo) w in
-    (w, shr-lt 110 16 w, shr-lt 62 64 v, mod-lt (mended (wordOf hi lo) (mend (wordOf hi lo))) (lit< tt), word-join (mended (wordOf hi lo) (mend (wordOf hi lo))) v)
+    let v = mended-lt (wordOf hi lo) w in (
+      w,
+      shr-lt 110 16 w,
+      shr-lt 62 64 v,
+      mod-lt (mended (wordOf hi lo) (mend (wordOf hi lo))) (lit< tt),
+      word-join
+          (mended (wordOf hi lo) (mend (wordOf hi lo))) v,
+    )
 
 pub frame-calls : FrameCalls
 unfolding wordAt codedFrame mendedFrame flagsOf

@@ -10,7 +10,7 @@ ghost use Rattle.decoder.specs.definitions.Mend.{mended, flagOf};
 ghost use Rattle.decoder.specs.definitions.Word.{decoded, mendedFrame, flagsOf};
 ghost use Rattle.decoder.specs.private.Answer.{Answers, Within, confirmed};
 
-// What decoding turned over: no bit, one, two in rising order; or no code word lies within two bits.
+// What decoding flipped: no bit, one, two in rising order; or no code word lies within two bits.
 pub enum Mend {
     Clean,
     One(u64),
@@ -18,7 +18,7 @@ pub enum Mend {
     Flagged,
 }
 
-// The word that is passed on, and what was turned over to get it.
+// The word that is passed on, and what was flipped to get it.
 pub struct Decoded {
     pub hi: u64,
     pub lo: u64,
@@ -154,7 +154,7 @@ fn find(field: &[u16; 512], log: &[u16; 128], ratio: &[u16; 255], t: &[u16; 126]
     confirm(t, s, p)
 }
 
-// The word with bit i turned over, by a look-up: places are any, so that a branch on them would be guessed wrong every other time.
+// The word with bit i flipped, by a look-up: places are any, so that a branch on them would be guessed wrong every other time.
 fn flip(bit: &[u64; 252], w: Word, i: u64) -> Word
     requires { ⌜ IsBit (now bit) ⌝ }
     requires { ⌜ (w .hi < 2 ^ 62) × (i < 126) ⌝ }
@@ -167,7 +167,7 @@ fn flip(bit: &[u64; 252], w: Word, i: u64) -> Word
     }
 }
 
-// The word with the bits of a pattern turned over.
+// The word with the bits of a pattern flipped.
 fn mended(bit: &[u64; 252], w: Word, m: Mend) -> Word
     requires { ⌜ IsBit (now bit) ⌝ }
     requires { ⌜ w .hi < 2 ^ 62 ⌝ }
@@ -268,8 +268,9 @@ fn decode_words(
 {
     let mut i: usize = 0;
     while i < 384 {
-        let hi = words[2 * i];
-        let lo = words[2 * i + 1];
+        let at = 2 * i;
+        let hi = words[at];
+        let lo = words[at + 1];
         let d = decode_word(
             remainders,
             field,
@@ -280,8 +281,8 @@ fn decode_words(
             hi % bits::TWO_62,
             lo,
         );
-        words[2 * i] = d.hi;
-        words[2 * i + 1] = d.lo;
+        words[at] = d.hi;
+        words[at + 1] = d.lo;
         let m = d.mend;
         flags[i] = flag(m);
         i += 1;

@@ -1,86 +1,76 @@
 -- The rule of each table, by tests that antt computes over the whole table, or over all 8,002 patterns.
 -- Assumes nothing.
-use mathlib.Core.Path.{_≡_, refl, sym, ap, ap₂, _∙_, subst}
-use mathlib.Core.Bool.{Bool, true, false, _&&_}
-use mathlib.Core.List.{List, [], _∷_}
+use mathlib.Core.Path.{_≡_, refl, sym, ap, ap₂, _∙_}
+use mathlib.Core.Bool.{Bool, _&&_}
+use mathlib.Core.List.{List, [], _++_, map}
 use Prim.Native.Nat.{ℕ, zero, suc, _+_, _-_, _*_, _/_, _%_, _^_, _<_}
-use native.Mathlib.Nat.{zero-add, add-zero, mod-lt, not-suc-le-zero}
+use native.Mathlib.Nat.{add-comm, not-suc-le-zero}
 use native.Mathlib.Omega.{arith}
-use native.Mathlib.Decide.{decLt}
-use lib.Dec.{T, eqb, eqb→eq, ltb, ltb→lt, lit<}
-use lib.ListN.{length, getD, drop}
-use lib.Seq.{getD-drop}
-use lib.Bits.{bitXor, xor-comm, xor-shifted}
-use Rattle.bits.proofs.Table.{each, range-rule, and-left, and-right}
+use lib.Dec.{T, eqb, eqb→eq, ltb, ltb→lt}
+use lib.ListN.{length, getD, List·getD-append, List·getD-map}
+use lib.Pow.{pow-pos, pow-lt}
+use lib.Seq.{getD-append-add}
+use lib.Bits.{bitXor, xor-lt, xor-mod, xor-shr}
+use Rattle.bits.proofs.Xor.{xor-four}
+use Rattle.bits.proofs.Table.{every, everyTwo, each, table-rule, pairs-rule, range-rule, and-left, and-right}
+use Rattle.bits.proofs.Sums.{sums, sumAt, sums-long, sums-at, sum-xor, sums-linear}
 use Rattle.bch.specs.definitions.Code.{stepOf, feedOf, remainder}
 use Rattle.decoder_tables.specs.private.Tables.{column, IsRemainders, IsColumns, IsBit, Finds, locatedPair, roundOf, valuesOf, risingOf}
 use Rattle.decoder_tables.specs.declared.Pair.{Pair}
-use Rattle.bch.proofs.Remainder.{feed-lt, feed-xor, feed-plain, feed-append, remainder-power}
+use Rattle.bch.proofs.Remainder.{feed-xor, feed-plain, feed-append, remainder-lt, remainder-zero, remainder-power}
 use Rattle.decoder_tables.proofs.Lists.{remainders, field, log, ratio, bitColumns, bit}
 
--- ---- `REMAINDERS`: its first 256 entries are the bytes times x^16, and each other is the one 256 before it times x^8
+-- ---- `REMAINDERS`: fourteen tables of sums of eight powers of x, each above those of the table before it
 
--- a test of two lists side by side
-along : (ℕ → ℕ → Bool) → List ℕ → List ℕ → Bool
-along ok xs [] = true
-along ok [] (y ∷ ys) = false
-along ok (x ∷ xs) (y ∷ ys) = ok x y && along ok xs ys
+tables : ℕ → ℕ → List ℕ
+tables zero r = []
+tables (suc n) r = sums 8 (λ i. feedOf r i 0) ++ tables n (feedOf r 8 0)
 
-along-rule : (ok : ℕ → ℕ → Bool) (xs ys : List ℕ) → T (along ok xs ys) → (k : ℕ) → k < length ys → T (ok (getD xs k 0) (getD ys k 0))
-unfolding along
-along-rule ok xs [] t k h = absurd (not-suc-le-zero h)
-along-rule ok [] (y ∷ ys) t k h = absurd t
-along-rule ok (x ∷ xs) (y ∷ ys) t zero h = and-left (ok x y) (along ok xs ys) t
-along-rule ok (x ∷ xs) (y ∷ ys) t (suc k) h = along-rule ok xs ys (and-right (ok x y) (along ok xs ys) t) k (omega arith)
+remainders-are : remainders ≡ tables 14 (feedOf 1 16 0)
+unfolding tables sums feedOf stepOf
+remainders-are = refl
 
-first-ok : ℕ → Bool
-first-ok b = eqb (getD remainders b 0) (feedOf b 16 0)
+feed-none : (r w : ℕ) → feedOf r 0 w ≡ r
+unfolding feedOf
+feed-none r w = refl
 
-first-test : T (each first-ok 256 0)
-unfolding first-ok feedOf stepOf
-first-test = tt
+-- zeros fed after zeros
+feed-zeros : (r j k : ℕ) → feedOf (feedOf r j 0) k 0 ≡ feedOf r (j + k) 0
+feed-zeros r j k = let z : 0 * 2 ^ k + 0 ≡ 0 = omega arith in feed-append r j k 0 0 (pow-pos k) ∙ ap (feedOf r (j + k)) z
 
--- eight steps at once: the lower byte moves up, and the upper one leaves its entry among the first 256
-next-ok : ℕ → ℕ → Bool
-next-ok a b = eqb b (bitXor (a % 256 * 256) (getD remainders (a / 256) 0))
+power-feed : (n i : ℕ) → i < 8 → feedOf (feedOf 1 n 0) i 0 ≡ feedOf (2 ^ i) n 0
+power-feed n i h =
+    let small : 2 ^ i < 2 ^ 8 = pow-lt h in
+    let one : 1 * 2 ^ i + 0 ≡ 2 ^ i = omega arith in
+    let plain : feedOf 1 i 0 ≡ 2 ^ i = feed-plain 1 i 0 (omega arith) (pow-pos i) ∙ one in
+    feed-zeros 1 n i ∙ ap (λ (k : ℕ). feedOf 1 k 0) (add-comm n i) ∙ sym (feed-zeros 1 i n) ∙ ap (λ (r : ℕ). feedOf r n 0) plain
 
-next-test : T (along next-ok remainders (drop 256 remainders))
-unfolding along next-ok
-next-test = tt
-
-first-entry : (b : ℕ) → b < 256 → getD remainders b 0 ≡ feedOf b 16 0
-unfolding first-ok
-first-entry b l = eqb→eq (getD remainders b 0) (feedOf b 16 0) (range-rule first-ok 256 0 first-test b (omega arith) l)
-
-byte-step : (a : ℕ) → a < 65536 → bitXor (a % 256 * 256) (getD remainders (a / 256) 0) ≡ feedOf a 8 0
-byte-step a h =
-    ap₂ bitXor (sym (feed-plain (a % 256) 8 0 (omega arith) (lit< tt) ∙ add-zero (a % 256 * 256))) (first-entry (a / 256) (omega arith) ∙ sym upper)
-    ∙ sym (feed-xor (a % 256) (a / 256 * 256) 8 0 0 (omega arith) (omega arith)) ∙ ap (λ (r : ℕ). feedOf r 8 0) whole
-  where
-    upper : feedOf (a / 256 * 256) 8 0 ≡ feedOf (a / 256) 16 0
-    upper =
-        let plain : feedOf (a / 256) 8 0 ≡ a / 256 * 256 = feed-plain (a / 256) 8 0 (omega arith) (lit< tt) ∙ add-zero (a / 256 * 256) in
-        ap (λ (r : ℕ). feedOf r 8 0) (sym plain) ∙ feed-append (a / 256) 8 8 0 0 (lit< tt)
-
-    whole : bitXor (a % 256) (a / 256 * 256) ≡ a
-    whole =
-        let sum : a / 256 * 256 + a % 256 ≡ a = omega arith in
-        xor-comm (a % 256) (a / 256 * 256) ∙ xor-shifted (a / 256) 8 (a % 256) (mod-lt a (lit< tt)) ∙ sum
-
-remainder-entry : (p b : ℕ) → p < 14 → b < 256 → getD remainders (256 * p + b) 0 ≡ feedOf b (8 * p + 16) 0
-unfolding next-ok
-remainder-entry zero b h l = ap (λ (k : ℕ). getD remainders k 0) (zero-add b) ∙ first-entry b l
-remainder-entry (suc p) b h l =
+-- entry b of table p
+table-at : (n p b r : ℕ) → p < n → b < 256 → getD (tables n r) (256 * p + b) 0 ≡ sumAt 8 (λ i. feedOf (feedOf r (8 * p) 0) i 0) b
+unfolding tables
+table-at zero p b r h l = absurd (not-suc-le-zero h)
+table-at (suc n) zero b r h l =
+    let first = sums 8 (λ i. feedOf r i 0) in
+    let e : 256 * 0 + b ≡ b = omega arith in
+    ap (λ (k : ℕ). getD (tables (suc n) r) k 0) e ∙ List·getD-append first (tables n (feedOf r 8 0)) 0 b (rw (sums-long 8 (λ i. feedOf r i 0)) l)
+    ∙ sums-at 8 (λ i. feedOf r i 0) b l ∙ ap (λ (x : ℕ). sumAt 8 (λ i. feedOf x i 0) b) (sym (feed-none r 0))
+table-at (suc n) (suc p) b r h l =
+    let first = sums 8 (λ i. feedOf r i 0) in
+    let rest = tables n (feedOf r 8 0) in
     let k = 256 * p + b in
     let e : 256 * suc p + b ≡ 256 + k = omega arith in
-    let f : 8 * p + 16 + 8 ≡ 8 * suc p + 16 = omega arith in
-    let in-list : k < 3328 = omega arith in
-    let before : getD remainders k 0 ≡ feedOf b (8 * p + 16) 0 = remainder-entry p b (omega arith) l in
-    ap (λ (k : ℕ). getD remainders k 0) e ∙ sym (getD-drop 256 remainders k 0)
-    ∙ eqb→eq (getD (drop 256 remainders) k 0) (bitXor (getD remainders k 0 % 256 * 256) (getD remainders (getD remainders k 0 / 256) 0)) (along-rule next-ok remainders (drop 256 remainders) next-test k in-list)
-    ∙ byte-step (getD remainders k 0) (subst (λ (x : ℕ). x < 65536) (sym before) (feed-lt b (8 * p + 16) 0 (omega arith)))
-    ∙ ap (λ (x : ℕ). feedOf x 8 0) before
-    ∙ feed-append b (8 * p + 16) 8 0 0 (lit< tt) ∙ ap (λ (k : ℕ). feedOf b k 0) f
+    let f : 8 + 8 * p ≡ 8 * suc p = omega arith in
+    ap (λ (m : ℕ). getD (first ++ rest) m 0) (e ∙ ap (λ (m : ℕ). m + k) (sym (sums-long 8 (λ i. feedOf r i 0)))) ∙ getD-append-add first rest k 0
+    ∙ table-at n p b (feedOf r 8 0) (omega arith) l ∙ ap (λ (x : ℕ). sumAt 8 (λ i. feedOf x i 0) b) (feed-zeros r 8 (8 * p) ∙ ap (λ (m : ℕ). feedOf r m 0) f)
+
+remainder-entry : (p b : ℕ) → p < 14 → b < 256 → getD remainders (256 * p + b) 0 ≡ feedOf b (8 * p + 16) 0
+remainder-entry p b h l =
+    let n = 8 * p + 16 in
+    let e : 16 + 8 * p ≡ 8 * p + 16 = omega arith in
+    ap (λ (t : List ℕ). getD t (256 * p + b) 0) remainders-are ∙ table-at 14 p b (feedOf 1 16 0) h l
+    ∙ ap (λ (x : ℕ). sumAt 8 (λ i. feedOf x i 0) b) (feed-zeros 1 16 (8 * p) ∙ ap (λ (m : ℕ). feedOf 1 m 0) e)
+    ∙ sums-linear 8 (λ i. feedOf (feedOf 1 n 0) i 0) (λ x. feedOf x n 0) (remainder-zero n)
+    (λ x y hx hy. feed-xor x y n 0 0 (omega arith) (omega arith)) (power-feed n) b l
 
 pub is-remainders : IsRemainders remainders
 is-remainders = record { entry = remainder-entry }
@@ -116,7 +106,8 @@ is-columns = record { entry = column-entry }
 -- ---- `BIT`: two numbers a place
 
 bit-ok : ℕ → Bool
-bit-ok i = eqb (getD bit (2 * i) 0 * 2 ^ 64 + getD bit (2 * i + 1) 0) (2 ^ (125 - i)) && (ltb (getD bit (2 * i) 0) (2 ^ 62) && ltb (getD bit (2 * i + 1) 0) (2 ^ 64))
+bit-ok i =
+    eqb (getD bit (2 * i) 0 * 2 ^ 64 + getD bit (2 * i + 1) 0) (2 ^ (125 - i)) && (ltb (getD bit (2 * i) 0) (2 ^ 62) && ltb (getD bit (2 * i + 1) 0) (2 ^ 64))
 
 bit-test : T (each bit-ok 126 0)
 unfolding bit-ok
@@ -145,64 +136,96 @@ is-bit =
 
 -- ---- `FIELD`, `LOG` and `RATIO`: from the remainder of each pattern of one bit or two they lead to its places
 
-leads : ℕ → ℕ → ℕ → Bool
-leads s i j = eqb (locatedPair field log ratio s .low) i && eqb (locatedPair field log ratio s .high) j
+-- `FIELD` is two tables of sums, for the two bytes of a remainder
+low : ℕ → ℕ
+low i = getD field (2 ^ i) 0
 
-leads-to : (s i j : ℕ) → T (leads s i j) → locatedPair field log ratio s ≡ record { low = i; high = j }
+high : ℕ → ℕ
+high i = getD field (256 + 2 ^ i) 0
+
+field-is : field ≡ sums 8 low ++ sums 8 high
+unfolding sums low high
+field-is = refl
+
+values-are : (s : ℕ) → s < 65536 → valuesOf field s ≡ bitXor (sumAt 8 low (s % 256)) (sumAt 8 high (s / 256))
+unfolding valuesOf
+values-are s h =
+    let l : s % 256 < length (sums 8 low) = rw (sums-long 8 low) (omega arith) in
+    ap₂ bitXor (ap (λ (t : List ℕ). getD t (s % 256) 0) field-is ∙ List·getD-append (sums 8 low) (sums 8 high) 0 (s % 256) l
+    ∙ sums-at 8 low (s % 256) (omega arith))
+    (ap (λ (t : List ℕ). getD t (256 + s / 256) 0) field-is ∙ ap (λ (n : ℕ). getD (sums 8 low ++ sums 8 high) (n + s / 256) 0) (sym (sums-long 8 low))
+    ∙ getD-append-add (sums 8 low) (sums 8 high) (s / 256) 0 ∙ sums-at 8 high (s / 256) (omega arith))
+
+-- so the values are linear
+values-xor : (s t : ℕ) → s < 65536 → t < 65536 → valuesOf field (bitXor s t) ≡ bitXor (valuesOf field s) (valuesOf field t)
+values-xor s t hs ht =
+    values-are (bitXor s t) (xor-lt 16 s t hs ht)
+    ∙ ap₂ bitXor (ap (sumAt 8 low) (xor-mod s t 8) ∙ sum-xor 8 low (s % 256) (t % 256)) (ap (sumAt 8 high) (xor-shr s t 8) ∙ sum-xor 8 high (s / 256) (t / 256))
+    ∙ xor-four (sumAt 8 low (s % 256)) (sumAt 8 low (t % 256)) (sumAt 8 high (s / 256)) (sumAt 8 high (t / 256))
+    ∙ sym (ap₂ bitXor (values-are s hs) (values-are t ht))
+
+-- the places that the look-ups lead to from the values v
+located : ℕ → Pair
+located v = risingOf (roundOf (x % 128 + q % 128)) (roundOf (x % 128 + q / 128))
+  where
+    x : ℕ
+    x = getD log (v % 128) 0
+
+    y : ℕ
+    y = getD log (v / 128 % 128) 0
+
+    q : ℕ
+    q = getD ratio (x / 128 % 128 + 127 - y % 128) 0
+
+leads : Pair → ℕ → ℕ → Bool
+leads p i j = eqb (p .low) i && eqb (p .high) j
+
+leads-to : (p : Pair) (i j : ℕ) → T (leads p i j) → p ≡ record { low = i; high = j }
 unfolding leads
-leads-to s i j t =
-    let p : Pair = locatedPair field log ratio s in
+leads-to p i j t =
     let e : p .low ≡ i = eqb→eq (p .low) i (and-left (eqb (p .low) i) (eqb (p .high) j) t) in
     let f : p .high ≡ j = eqb→eq (p .high) j (and-right (eqb (p .low) i) (eqb (p .high) j) t) in
     λ k. record { low = e k; high = f k }
 
-one-ok : ℕ → Bool
-one-ok i = leads (getD bitColumns i 0) i i
+-- the values of the single bits
+values : List ℕ
+values = map (valuesOf field) bitColumns
 
-one-test : T (each one-ok 126 0)
-unfolding one-ok leads locatedPair roundOf valuesOf risingOf
+one-ok : ℕ → ℕ → Bool
+one-ok i v = leads (located v) i i
+
+one-test : T (every one-ok 0 values)
+unfolding one-ok leads located roundOf valuesOf risingOf values
 one-test = tt
 
-two-ok : ℕ → ℕ → Bool
-two-ok i j = leads (bitXor (getD bitColumns i 0) (getD bitColumns j 0)) i j
+two-ok : ℕ → ℕ → ℕ → ℕ → Bool
+two-ok i v j w = leads (located (bitXor v w)) i j
 
-row-ok : ℕ → Bool
-row-ok i = each (two-ok i) (125 - i) (suc i)
+two-test : T (everyTwo two-ok 0 values)
+unfolding two-ok leads located roundOf valuesOf risingOf values
+two-test = tt
 
-rows-0 : T (each row-ok 18 0)
-unfolding row-ok two-ok leads locatedPair roundOf valuesOf risingOf
-rows-0 = tt
+located-is : (s : ℕ) → locatedPair field log ratio s ≡ located (valuesOf field s)
+unfolding locatedPair located
+located-is s = refl
 
-rows-1 : T (each row-ok 20 18)
-unfolding row-ok two-ok leads locatedPair roundOf valuesOf risingOf
-rows-1 = tt
+value-at : (i : ℕ) → i < 126 → getD values i 0 ≡ valuesOf field (column i)
+unfolding values valuesOf
+value-at i h = List·getD-map (valuesOf field) bitColumns i 0 ∙ ap (valuesOf field) (column-entry i h)
 
-rows-2 : T (each row-ok 22 38)
-unfolding row-ok two-ok leads locatedPair roundOf valuesOf risingOf
-rows-2 = tt
-
-rows-3 : T (each row-ok 65 60)
-unfolding row-ok two-ok leads locatedPair roundOf valuesOf risingOf
-rows-3 = tt
-
-rows : (i : ℕ) → i < 125 → T (row-ok i)
-rows i h = go (decLt i 18) (decLt i 38) (decLt i 60)
-  where
-    go : Dec (i < 18) → Dec (i < 38) → Dec (i < 60) → T (row-ok i)
-    go (yes a) d e = range-rule row-ok 18 0 rows-0 i (omega arith) (omega arith)
-    go (no a) (yes b) e = range-rule row-ok 20 18 rows-1 i (omega arith) (omega arith)
-    go (no a) (no b) (yes d) = range-rule row-ok 22 38 rows-2 i (omega arith) (omega arith)
-    go (no a) (no b) (no d) = range-rule row-ok 65 60 rows-3 i (omega arith) (omega arith)
+column-lt : (i : ℕ) → column i < 65536
+unfolding column
+column-lt i = remainder-lt 126 (2 ^ (125 - i))
 
 pub finds : Finds field log ratio
-unfolding locatedPair roundOf valuesOf risingOf one-ok two-ok row-ok
+unfolding locatedPair roundOf valuesOf risingOf one-ok two-ok values
 finds = record { none = refl; one = lone; two = both }
   where
     lone : (i : ℕ) → i < 126 → locatedPair field log ratio (column i) ≡ record { low = i; high = i }
-    lone i h = rw (← (column-entry i h)) (leads-to (getD bitColumns i 0) i i (range-rule one-ok 126 0 one-test i (omega arith) h))
+    lone i h = located-is (column i) ∙ ap located (sym (value-at i h)) ∙ leads-to (located (getD values i 0)) i i (table-rule one-ok values one-test i h)
 
     both : (i j : ℕ) → i < j → j < 126 → locatedPair field log ratio (bitXor (column i) (column j)) ≡ record { low = i; high = j }
     both i j l h =
-        rw (← (column-entry i (omega arith)), ← (column-entry j h))
-        (leads-to (bitXor (getD bitColumns i 0) (getD bitColumns j 0)) i j
-        (range-rule (two-ok i) (125 - i) (suc i) (rows i (omega arith)) j l (omega arith)))
+        located-is (bitXor (column i) (column j))
+        ∙ ap located (values-xor (column i) (column j) (column-lt i) (column-lt j) ∙ sym (ap₂ bitXor (value-at i (omega arith)) (value-at j h)))
+        ∙ leads-to (located (bitXor (getD values i 0) (getD values j 0))) i j (pairs-rule two-ok values two-test i j l h)

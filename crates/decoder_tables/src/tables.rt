@@ -3589,7 +3589,8 @@ pub const REMAINDERS: [u16; 3584] = [
     59644,
 ];
 
-// For byte b of place k of a remainder, at 256 k + b: its values at a and at a^3 in the field of 128, a^7 = a^3 + 1, in seven bits each.
+// For byte b of place k of a remainder, at 256 k + b: its values at a and at a^3 in the field of 128, a^7 = a^3 + 1, in seven bits
+// each, that at a^3 on top.
 pub const FIELD: [u16; 512] = [
     0,
     129,
@@ -4105,7 +4106,8 @@ pub const FIELD: [u16; 512] = [
     16123,
 ];
 
-// For a^e of the field, 125 - e round 127, the place of the bit whose value at a it is, and above it three times that round 127. No bit has the value 0: 126.
+// For a^e of the field, 125 - e round 127, the place of the bit whose value at a it is, and above it three times that round 127.
+// 0 has the entry of place 126, which no bit has.
 pub const LOG: [u16; 128] = [
     15998,
     15613,
@@ -4237,7 +4239,8 @@ pub const LOG: [u16; 128] = [
     10010,
 ];
 
-// By how much two places lie behind the place of their sum, in two halves of seven bits; 0 where no two places do. Twice round 127.
+// By how much two places lie behind the place of the sum of their values at a, in two halves of seven bits; 0 where no two places do. At three times
+// the place of that sum less the place of the sum at a^3, and 127 more; so it goes twice round 127.
 pub const RATIO: [u16; 255] = [
     0,
     0,
@@ -4626,7 +4629,7 @@ pub const COLUMN: [u16; 126] = [
     1,
 ];
 
-// The two numbers of the word whose only bit is bit i, at 2 i.
+// The two numbers of the word whose only bit is bit i, at 2 i, the upper first.
 pub const BIT: [u64; 252] = [
     2305843009213693952,
     0,

@@ -21,7 +21,8 @@ use Rattle.bch.specs.definitions.Code.{distance}
 use Rattle.decoder.proofs.Distance.{distance-weight}
 use Rattle.decoder.proofs.Theorems.{nothing, three-flagged, flagged-passes}
 use Rattle.lanes.specs.definitions.Permutation.{Lanes, Places, named, partner}
-use Rattle.lanes.specs.definitions.Stream.{streamBit, deinterleaved}
+use Rattle.lanes.specs.definitions.Stream.{streamBit}
+use Rattle.lanes.specs.private.Stream.{deinterleaved}
 use Rattle.lanes.proofs.Return.{across, across-lt, across-twice, fetched}
 use Rattle.symbols.specs.definitions.Frame.{frameOf, arrived}
 use Rattle.pilots.specs.definitions.Table5.{pilots}

@@ -9,7 +9,7 @@ use native.Mathlib.Decide.{ℕ-discrete}
 use native.Mathlib.Omega.{arith}
 use lib.Dec.{eqb}
 use lib.ListN.{replicate}
-use borrow.Author.Tests.{eq-eqb, ne-eqb}
+use borrow.Author.Tests.{ne-eqb}
 use Rattle.bits.proofs.Count.{count-cong}
 use Rattle.decoder.specs.declared.Mend.{Mend}
 use Rattle.decoder.specs.declared.Mend.the-variants.{Clean, One, Two, Flagged}
@@ -23,8 +23,7 @@ use Rattle.account.specs.declared.Entry.{Entry}
 use Rattle.account.specs.declared.Tallies.{Tallies}
 use Rattle.account.specs.definitions.Account.{frameLimit, total, opened, counted, talliesOf, ahead, over, grown, frameEntered, lossEntered, measured}
 use Rattle.account.proofs.Limits.{under, within}
-use Rattle.account.proofs.Entered.{frame-done}
-use Rattle.account.proofs.AcceptedEntry.{frame-taken, loss-taken}
+use Rattle.account.proofs.AcceptedEntry.{frame-taken, loss-taken, frame-done}
 use Rattle.account.proofs.VerdictMeaning.{measured-means}
 use Rattle.account.proofs.Kept.{brings}
 use Rattle.capture.specs.declared.Read.{Read}
@@ -94,9 +93,8 @@ module _ (start : ℕ) (frames : ℕ → List ℕ) where
   entered-next : (k : ℕ) → k < frameLimit
       → record { refusal = 0; account = allAccepted (suc k) } ≡ frameEntered (allAccepted k) (frameNumber start k) (frameTallies (frames k))
   entered-next k h =
-      frame-done (allAccepted k) (frameNumber start k) 0 (not-ahead k) (frameTallies (frames k)) refl false true (sym limits) refl
-      (sym (eq-eqb (total (frameTallies (frames k))) 384 (words-due (frames k)))) (allAccepted (suc k))
-      (next-account k) refl
+      ap (λ (a : Account). record { refusal = 0; account = a }) (next-account k)
+      ∙ frame-done (allAccepted k) (frameNumber start k) (frameTallies (frames k)) 0 (not-ahead k) refl limits (words-due (frames k))
     where
       limits : over (grown (allAccepted k) (frameNumber start k) 1 0 (frameTallies (frames k))) ≡ false
       limits =

@@ -13,7 +13,8 @@ use Rattle.bch.specs.definitions.Code.{distance}
 use Rattle.decoder.proofs.Theorems.{nothing, mends-two}
 use Rattle.lanes.specs.definitions.Permutation.{Places}
 use Rattle.lanes.specs.definitions.Interleaver.{deinterleavedFrame, deinterleavedStore}
-use Rattle.lanes.specs.definitions.Stream.{streamBit, deinterleaved}
+use Rattle.lanes.specs.definitions.Stream.{streamBit}
+use Rattle.lanes.specs.private.Stream.{deinterleaved}
 use Rattle.lanes.proofs.Return.{deinterleaved-lt}
 use Rattle.symbols.specs.definitions.Frame.{arrived}
 use Rattle.symbols.proofs.Return.{arrived-lt}

@@ -15,7 +15,8 @@ use Rattle.bits.specs.definitions.Bits.{bitOf}
 use Rattle.bits.proofs.Count.{count-some, count-pos}
 use Rattle.decoder.proofs.Theorems.{two-vanish}
 use Rattle.lanes.specs.definitions.Permutation.{Lanes, Places, named, permuted}
-use Rattle.lanes.specs.definitions.Stream.{streamBit, delayed, interleaved, deinterleaved}
+use Rattle.lanes.specs.definitions.Stream.{streamBit, delayed, interleaved}
+use Rattle.lanes.specs.private.Stream.{deinterleaved}
 use Rattle.lanes.proofs.Rows.{lt-or-le, delayed-early, delayed-at}
 use Rattle.lanes.proofs.Return.{across, across-lt, across-place, permuted-across, carried, fetched}
 use Rattle.symbols.specs.definitions.Frame.{arrived}

@@ -15,7 +15,8 @@ use Rattle.bch.specs.definitions.Code.{CodeWord, distance}
 use Rattle.decoder.proofs.Distance.{distance-weight}
 use Rattle.decoder.proofs.Theorems.{mends-two}
 use Rattle.lanes.specs.definitions.Permutation.{Places}
-use Rattle.lanes.specs.definitions.Stream.{streamBit, interleaved, deinterleaved}
+use Rattle.lanes.specs.definitions.Stream.{streamBit, interleaved}
+use Rattle.lanes.specs.private.Stream.{deinterleaved}
 use Rattle.lanes.proofs.Return.{back-late, back-early, deinterleaved-cong}
 use Rattle.symbols.specs.definitions.Frame.{arrived}
 use Rattle.pilots.specs.definitions.Pilots.{locks}

@@ -11,7 +11,8 @@ use lib.Bits.{differ}
 use Rattle.bch.specs.definitions.Code.{CodeWord}
 use Rattle.lanes.specs.definitions.Permutation.{Lanes, Places}
 use Rattle.lanes.specs.definitions.Interleaver.{interleavedStore}
-use Rattle.lanes.specs.definitions.Stream.{streamBit, deinterleaved}
+use Rattle.lanes.specs.definitions.Stream.{streamBit}
+use Rattle.lanes.specs.private.Stream.{deinterleaved}
 use Rattle.lanes.proofs.Return.{deinterleaved-cong, deinterleaved-zip}
 use Rattle.symbols.specs.definitions.Frame.{arrived}
 use Rattle.pilots.specs.definitions.Table5.{pilots}

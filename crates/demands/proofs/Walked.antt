@@ -37,7 +37,15 @@ module _ (start asked allowed : ℕ) (frames : ℕ → List ℕ) (h : start < 2 
   unfolding cameAs orderCame storeAfter wordsIn
   ordered-first s next =
       let e : start ≡ frameNumber start 0 = omega arith in
-      λ i. record { run = record { phase = Going; asked = asked; allowed = allowed; account = record { expected = e i; accepted = 0; missing = 0; words = noWords } }; store = replicate 2880 0 }
+      λ i. record {
+        run = record {
+          phase = Going;
+          asked = asked;
+          allowed = allowed;
+          account = record { expected = e i; accepted = 0; missing = 0; words = noWords };
+        };
+        store = replicate 2880 0;
+      }
 
 -- ---- over a measured capture
 

@@ -15,7 +15,8 @@ use Rattle.capture.proofs.Local.{wanted-bounds, wanted-alike}
 pub before-part : (from at k : ℕ) (xs ys : List ℕ) → from ≤ at → at ≤ length xs → take from (putMid at k xs ys) ≡ take from xs
 before-part from at k xs ys h g =
     let l = length-take-le at xs g in
-    take-append-le from (take at xs) (ys ++ postOf at k xs) (omega arith) ∙ sym (take-append-le from (take at xs) (drop at xs) (omega arith)) ∙ ap (take from) (take-append-drop at xs)
+    take-append-le from (take at xs) (ys ++ postOf at k xs) (omega arith) ∙ sym (take-append-le from (take at xs) (drop at xs) (omega arith))
+    ∙ ap (take from) (take-append-drop at xs)
 
 -- at the beginning of a buffer in which four bytes are there, as many are wanted as of those four alone
 head-decides : (b c : List ℕ) (n : ℕ) → layout .lengthBytes ≤ n → n ≤ length c → take (layout .lengthBytes) c ≡ take (layout .lengthBytes) b
@@ -26,7 +27,9 @@ head-decides b c n h g e =
     ∙ wanted-alike (take (layout .lengthBytes) b) (take (n - layout .lengthBytes) (drop (layout .lengthBytes) c)) (rw (← e) (omega arith))
   where
     parts : take n c ≡ take (layout .lengthBytes) c ++ take (n - layout .lengthBytes) (drop (layout .lengthBytes) c)
-    parts = let q : n ≡ layout .lengthBytes + (n - layout .lengthBytes) = omega arith in ap (λ (m : ℕ). take m c) q ∙ take-add (layout .lengthBytes) (n - layout .lengthBytes) c
+    parts =
+        let q : n ≡ layout .lengthBytes + (n - layout .lengthBytes) = omega arith in ap (λ (m : ℕ). take m c) q
+        ∙ take-add (layout .lengthBytes) (n - layout .lengthBytes) c
 
 -- first the length is wanted
 nothing-yet : wanted [] ≡ layout .lengthBytes
@@ -38,7 +41,8 @@ pub piece-begun : (c : List ℕ) (first end : ℕ) → first ≡ wanted [] → e
 piece-begun c first end f h = let z = nothing-yet in let w = wanted-bounds (take end c) .0 in omega arith
 
 -- a piece has no more than what its length asks for
-pub piece-ends : (c d : List ℕ) (first all end : ℕ) → first ≡ wanted [] → all ≡ wanted (take first c) → take first d ≡ take first c → end ≤ length d → end ≤ all → end ≤ wanted (take end d)
+pub piece-ends : (c d : List ℕ) (first all end : ℕ) → first ≡ wanted [] → all ≡ wanted (take first c) → take first d ≡ take first c → end ≤ length d → end ≤ all
+    → end ≤ wanted (take end d)
 piece-ends c d first all end f a e l h = at (decLt end first)
   where
     is : first ≡ layout .lengthBytes
@@ -47,7 +51,8 @@ piece-ends c d first all end f a e l h = at (decLt end first)
     at : Dec (end < first) → end ≤ wanted (take end d)
     at (yes m) = piece-begun d first end f (omega arith)
     at (no m) =
-        let w : wanted (take end d) ≡ wanted (take (layout .lengthBytes) c) = head-decides c d end (let z = is in omega arith) l (subst (λ (n : ℕ). take n d ≡ take n c) is e) in
+        let w : wanted (take end d) ≡ wanted (take (layout .lengthBytes) c) = head-decides c d end (let z = is in omega arith) l
+        (subst (λ (n : ℕ). take n d ≡ take n c) is e) in
         let q : all ≡ wanted (take (layout .lengthBytes) c) = a ∙ ap (λ (n : ℕ). wanted (take n c)) is in omega arith
 
 -- the first n of a buffer, as they are lent

@@ -64,7 +64,8 @@ off true e = absurd (false≢true e)
 off false e = refl
 
 -- one piece more
-module _ (st : State) (going : Bool) (R : Reading st going) (on : going ≡ true) (buffer : List ℕ) (n : ℕ) (some : n ≢ 0) (inside : n ≤ length buffer) (cut : n ≤ wanted (take n buffer)) where
+module _ (st : State) (going : Bool) (R : Reading st going) (on : going ≡ true) (buffer : List ℕ) (n : ℕ) (some : n ≢ 0) (inside : n ≤ length buffer)
+    (cut : n ≤ wanted (take n buffer)) where
   abbrev piece : List ℕ
   piece = take (n - 0) (drop 0 buffer)
 
@@ -84,7 +85,9 @@ module _ (st : State) (going : Bool) (R : Reading st going) (on : going ≡ true
           read = R .read ++ piece;
           bytes = bytes-append (R .read) piece (R .bytes) B;
           came = step ∙ onward-last (R .read) st (R .onward on) piece (let l = piece-length in omega arith) piece-cut;
-          onward = λ g. subst (Onward (R .read ++ piece)) (sym step) (onward-next (R .read) st (R .onward on) piece (let l = piece-length in omega arith) (all (goes (new .run .phase) (sym e ∙ off stop g))));
+          onward =
+              λ g. subst (Onward (R .read ++ piece)) (sym step) (onward-next (R .read) st (R .onward on) piece (let l = piece-length in omega arith)
+              (all (goes (new .run .phase) (sym e ∙ off stop g))));
           stops = ap not e;
         }
       where
@@ -98,4 +101,5 @@ module _ (st : State) (going : Bool) (R : Reading st going) (on : going ≡ true
     pub reading-less : remainingOf (new .run) < remainingOf (st .run)
     reading-less =
         subst (λ (x : State). remainingOf (x .run) < remainingOf (st .run)) (sym step)
-        (step-less st piece (λ z. let h = end piece 0 z in let l = piece-length in some (omega arith)) (goes (st .run .phase) (off (isStopped (st .run .phase)) (sym (R .stops) ∙ on))))
+        (step-less st piece (λ z. let h = end piece 0 z in let l = piece-length in some (omega arith))
+        (goes (st .run .phase) (off (isStopped (st .run .phase)) (sym (R .stops) ∙ on))))

@@ -19,7 +19,8 @@ struct Filled {
 // Reads into a buffer from a place on, until another is reached, the input ends or a read fails.
 fn fill(fd: i32, buffer: &mut [u8], from: usize, to: usize) -> Filled
     requires { ⌜ (from ≤ to) × (to ≤ length (now buffer)) ⌝ }
-    ensures { λ r. ⌜ (r .end ≤ to) × (length (now (buffer .exit)) ≡ length (now (buffer .entry))) × (take from (now (buffer .exit)) ≡ take from (now (buffer .entry))) ⌝ }
+    ensures { λ r. ⌜ (r .end ≤ to) × (length (now (buffer .exit)) ≡ length (now (buffer .entry)))
+        × (take from (now (buffer .exit)) ≡ take from (now (buffer .entry))) ⌝ }
 {
     let mut at: usize = from;
     while at < to {
@@ -56,7 +57,8 @@ fn wanted(buffer: &[u8], n: usize) -> usize
 // The next record comes to stand at the beginning of a buffer: its length, then as many bytes as that asks for, or what is left of the input.
 fn next_piece(fd: i32, buffer: &mut [u8]) -> Filled
     requires { ⌜ length (now buffer) ≡ layout .frameBytes ⌝ }
-    ensures { λ r. ⌜ (length (now (buffer .exit)) ≡ layout .frameBytes) × (r .end ≤ layout .frameBytes) × (r .end ≤ wanted (take (r .end) (now (buffer .exit)))) ⌝ }
+    ensures { λ r. ⌜ (length (now (buffer .exit)) ≡ layout .frameBytes) × (r .end ≤ layout .frameBytes)
+        × (r .end ≤ wanted (take (r .end) (now (buffer .exit)))) ⌝ }
 {
     let first = wanted(buffer, 0);
     let head = fill(fd, buffer, 0, first);
@@ -75,7 +77,8 @@ fn next_piece(fd: i32, buffer: &mut [u8]) -> Filled
 
 // A step over a piece, which is of bytes.
 fn step(run: bench::Run, store: &mut [u8; 2880], piece: &[u8]) -> bench::Run
-    ensures { λ r. ⌜ (record { run = r; store = now (store .exit) } ≡ stepped (record { run = run; store = now (store .entry) }) (now (piece .entry))) × AllBytes (now (piece .entry)) ⌝ }
+    ensures { λ r. ⌜ (record { run = r; store = now (store .exit) } ≡ stepped (record { run = run; store = now (store .entry) }) (now (piece .entry)))
+        × AllBytes (now (piece .entry)) ⌝ }
 {
     let stepped = bench::step(run, store, piece);
     stepped.run
@@ -105,8 +108,8 @@ fn broken_off(run: bench::Run) -> Came
     }
 }
 
-// The input followed record by record, to its end, to what stops the run, or to a read that fails. Over some bytes the answer is what following them comes to; that
-// they are the input's is what `fill` and `next_piece` do and no contract can say.
+// The input followed record by record, to its end, to what stops the run, or to a read that fails. Over some bytes the answer is what following them
+// comes to; that they are the input's is what `fill` and `next_piece` do and no contract can say.
 fn follow(fd: i32) -> Came
     ensures { λ r. ⌜ ((s : List ℕ) × AllBytes s × (r .run ≡ followed s (r .failed))) ⌝ }
 {

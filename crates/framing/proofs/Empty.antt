@@ -10,7 +10,8 @@ use lib.ListN.{length, replicate, length-replicate, getD-replicate}
 use Rattle.bits.specs.definitions.Bits.{bitOf, bitAt}
 use Rattle.lanes.specs.definitions.Permutation.{named, permuted, lanesOf}
 use Rattle.lanes.specs.definitions.Interleaver.{sender, interleavedStore, storeBit}
-use Rattle.lanes.specs.definitions.Stream.{streamBit, delayed, interleaved, deinterleaved}
+use Rattle.lanes.specs.definitions.Stream.{streamBit, delayed, interleaved}
+use Rattle.lanes.specs.private.Stream.{deinterleaved}
 use Rattle.lanes.proofs.Bytewise.{permuted-lt, lanes-lt}
 use Rattle.lanes.proofs.Stream.{stored-bit}
 use Rattle.symbols.specs.definitions.Frame.{arrived}

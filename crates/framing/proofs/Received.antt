@@ -18,7 +18,8 @@ use Rattle.decoder.specs.definitions.Word.{mendedFrame, flagsOf}
 use Rattle.decoder.proofs.Theorems.{mended-lt}
 use Rattle.lanes.specs.definitions.Permutation.{Places}
 use Rattle.lane_words.specs.definitions.LaneWords.{wordLanes}
-use Rattle.lanes.specs.definitions.Stream.{streamBit, deinterleaved}
+use Rattle.lanes.specs.definitions.Stream.{streamBit}
+use Rattle.lanes.specs.private.Stream.{deinterleaved}
 use Rattle.lanes.proofs.Stream.{deinterleaved-stream}
 use Rattle.symbols.specs.definitions.Frame.{arrived, wordsOf}
 use Rattle.symbols.proofs.Return.{arrived-lt}

@@ -15,7 +15,8 @@ use Rattle.bch.proofs.Theorems.{sent-is-code}
 use Rattle.lanes.specs.definitions.Permutation.{Places}
 use Rattle.lanes.specs.definitions.Interleaver.{interleavedFrame, interleavedStore}
 use Rattle.lane_words.specs.definitions.LaneWords.{informationAt, laneWords}
-use Rattle.lanes.specs.definitions.Stream.{streamBit, interleaved, Interleaves}
+use Rattle.lanes.specs.definitions.Stream.{streamBit, interleaved}
+use Rattle.lanes.specs.private.Stream.{Interleaves}
 use Rattle.lane_words.proofs.LaneWords.{bit-information, information-lt, information-bit, word-information}
 use Rattle.lanes.proofs.Stream.{interleaved-stream}
 use Rattle.symbols.specs.definitions.Frame.{arrived}

@@ -157,7 +157,8 @@ module _ (s : List ℕ) where
       rw lanes-are (bytes-bit 5280 laneBit lane-bit (110 * j + q) (omega arith) ∙ rw (p, k, r))
 
   -- and its information
-  pub lanes-field : (j : ℕ) → j < 384 → wordAt s (32 * (j % 12) + j / 12) < 2 ^ 126 → fieldAt (wordLanes s) (110 * j) 110 ≡ wordAt s (32 * (j % 12) + j / 12) / 2 ^ 16
+  pub lanes-field : (j : ℕ) → j < 384 → wordAt s (32 * (j % 12) + j / 12) < 2 ^ 126
+      → fieldAt (wordLanes s) (110 * j) 110 ≡ wordAt s (32 * (j % 12) + j / 12) / 2 ^ 16
   lanes-field j h l =
       let w = wordAt s (32 * (j % 12) + j / 12) in
       field-is (wordLanes s) (110 * j) 110 (bitOf 110 (w / 2 ^ 16)) (λ q b. lane-word-bit j q h b ∙ bit-information w q b)
@@ -235,4 +236,5 @@ unfolding laneWords halfOf wordAt
 words-lanes-words s small =
     tabulate-cong 768 (halfOf (λ i. informationAt (wordLanes s) i * 2 ^ 16)) (halfOf (λ i. wordAt s i / 2 ^ 16 * 2 ^ 16))
     (λ m h.
-    ap (λ (w : ℕ). cond (eqb (m % 2) 0) (w * 2 ^ 16 / 2 ^ 64) (w * 2 ^ 16 % 2 ^ 64)) (words-lanes s (m / 2) (omega arith) (word-lt _ _ (small (2 * (m / 2) + 1)))))
+    ap (λ (w : ℕ). cond (eqb (m % 2) 0) (w * 2 ^ 16 / 2 ^ 64) (w * 2 ^ 16 % 2 ^ 64))
+    (words-lanes s (m / 2) (omega arith) (word-lt _ _ (small (2 * (m / 2) + 1)))))

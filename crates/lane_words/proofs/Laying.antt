@@ -1,4 +1,4 @@
--- The loop that writes a frame's lanes, two stores a word: `Laying` is its invariant; `laying-start`, `laying-step` and `laying-done` answer where it
+-- The loop that writes a frame's lanes, two writes a word: `Laying` is its invariant; `laying-start`, `laying-step` and `laying-done` answer where it
 -- begins, after a step and at the end. The measure is the words that are left.
 -- Assumes nothing.
 use mathlib.Core.Path.{_≡_, refl, sym, ap, ap₂, _∙_}
@@ -13,7 +13,7 @@ use lib.Seq.{ext-getD}
 use Rattle.bits.specs.definitions.Bits.{value, fieldAt, AllBytes}
 use Rattle.bits.specs.definitions.Words.{wordOf}
 use Rattle.bits.proofs.Fields.{field-join, field-top, field-low, byte-field}
-use Rattle.bits.proofs.Joins.{Put}
+use Rattle.bits.specs.private.Joins.{Put}
 use Rattle.lane_words.specs.definitions.LaneWords.{wordLanes}
 use Rattle.lane_words.proofs.LaneWords.{field-middle, word-middle, word-top, word-last, lanes-length}
 
@@ -49,7 +49,7 @@ pub laying-start : (t out : List ℕ) → length out ≡ 5280 → Laying t out 0
 unfolding fieldAt value
 laying-start t out e = record { long = e; small = omega arith; same = λ m h. absurd (not-suc-le-zero h); over = refl }
 
--- eight bytes of t stored, where those before are written
+-- eight bytes of t put in, where those before are written
 put-same : (t d l : List ℕ) (o n : ℕ) {v : ℕ} → AllBytes t → Put 8 v o d l → v ≡ fieldAt t (8 * o) 64 → ((m : ℕ) → m < n → getD d m 0 ≡ getD t m 0) → o ≤ n
     → (m : ℕ) → m < o + 8 → getD l m 0 ≡ getD t m 0
 put-same t d l o n {v} B P e same h m b = at (decLt m o)
@@ -62,10 +62,11 @@ put-same t d l o n {v} B P e same h m b = at (decLt m o)
         let all : 64 ≡ 8 * q + 8 + k = omega arith in
         let here : 8 * o + 8 * q ≡ 8 * m = omega arith in
         let byte : (s : List ℕ) → AllBytes s → fieldAt s (8 * o) 64 / 2 ^ k % 2 ^ 8 ≡ getD s m 0 =
-        (λ s B. ap (λ (n : ℕ). fieldAt s (8 * o) n / 2 ^ k % 2 ^ 8) all ∙ field-middle s (8 * o) (8 * q) 8 k ∙ ap (λ (i : ℕ). fieldAt s i 8) here ∙ byte-field s B m) in
+        (λ s B. ap (λ (n : ℕ). fieldAt s (8 * o) n / 2 ^ k % 2 ^ 8) all ∙ field-middle s (8 * o) (8 * q) 8 k ∙ ap (λ (i : ℕ). fieldAt s i 8) here
+        ∙ byte-field s B m) in
         sym (byte l (P .bytes)) ∙ ap (λ (x : ℕ). x / 2 ^ k % 2 ^ 8) (P .is ∙ e) ∙ byte t B
 
--- A step, which stores a word's first bits after the last of the word before, and its last up to a whole byte.
+-- A step, which writes a word's first bits after the last of the word before, and its last up to a whole byte.
 module _ (t out mid l : List ℕ) (past hi lo b c x y z v : ℕ) (small : lo < 2 ^ 64) (here : fieldAt t b 110 ≡ wordOf hi lo / 2 ^ 16) (end : c ≡ b + 110)
     (L : Laying t out past b) where
   -- the bits before bit b + 2 of the byte in which the word begins

@@ -4,7 +4,7 @@ ghost use mathlib.Core.Path.{_≡_};
 ghost use Prim.Native.Nat.{_+_, _*_, _-_, _/_, _%_, _^_, _<_, _≤_};
 ghost use lib.ListN.{length};
 ghost use Rattle.bits.specs.definitions.Bits.{fieldAt};
-ghost use Rattle.bits.proofs.Joins.{Put};
+ghost use Rattle.bits.specs.private.Joins.{Put};
 ghost use Rattle.lane_words.specs.definitions.LaneWords.{laneWords, wordLanes};
 
 // The eight bytes from byte o on, as a number.
@@ -41,8 +41,9 @@ fn read_words(lanes: &[u8], words: &mut [u64])
         let b = 1320 * (i % 32) + 110 * (i / 32);
         let upper = half(lanes, b / 8, b);
         let lower = half(lanes, (b + 117) / 8 - 8, b + 55);
-        words[2 * i] = upper * 128 + lower / bits::TWO_48;
-        words[2 * i + 1] = lower % bits::TWO_48 * 65536;
+        let at = 2 * i;
+        words[at] = upper * 128 + lower / bits::TWO_48;
+        words[at + 1] = lower % bits::TWO_48 * 65536;
         i += 1;
     }
 }
@@ -63,7 +64,7 @@ fn narrow(x: u64) -> u8
 }
 
 // v as the eight bytes from byte o on.
-fn store(out: &mut [u8], o: usize, v: u64)
+fn put(out: &mut [u8], o: usize, v: u64)
     requires { ⌜ o + 8 ≤ length (now out) ⌝ }
     ensures { λ _. ⌜ Put 8 v o (now (out .entry)) (now (out .exit)) ⌝ }
 {
@@ -83,8 +84,8 @@ fn joined(x: u64, y: u64, a: u64) -> u64
     (x << (64 - a)) | (y >> a)
 }
 
-// Each word in the order of the lanes, in two stores: eight bytes from the one in which it begins, with the last bits of the word before; and eight
-// up to the one in which it ends. The next word is read between them, so that the compiler makes one store of each eight bytes.
+// Each word in the order of the lanes, in two writes: eight bytes from the one in which it begins, with the last bits of the word before; and eight
+// up to the one in which it ends. The next word is read between them, so that the compiler makes one move of each eight bytes.
 fn write_lanes(words: &[u64], lanes: &mut [u8])
     requires { ⌜ (length (now words) ≡ 768) × (length (now lanes) ≡ 5280) ⌝ }
     ensures { λ _. ⌜ now (lanes .exit) ≡ wordLanes (now (words .entry)) ⌝ }
@@ -98,15 +99,16 @@ fn write_lanes(words: &[u64], lanes: &mut [u8])
         let e = b + 110;
         let x = past * 4 + hi / bits::TWO_60 % 4;
         let y = joined(hi, lo, 60);
-        store(lanes, b / 8, joined(x, y, (b % 8) as u64 + 2));
-        let i = 32 * ((j + 1) % 12) + (j + 1) / 12;
-        let next_hi = words[2 * i];
-        let next_lo = words[2 * i + 1];
-        store(lanes, e / 8 - 8, joined(hi, lo, 16 + (e % 8) as u64));
+        put(lanes, b / 8, joined(x, y, (b % 8) as u64 + 2));
+        let next = j + 1;
+        let at = 2 * (32 * (next % 12) + next / 12);
+        let next_hi = words[at];
+        let next_lo = words[at + 1];
+        put(lanes, e / 8 - 8, joined(hi, lo, 16 + (e % 8) as u64));
         past = lo / 65536;
         hi = next_hi;
         lo = next_lo;
-        j += 1;
+        j = next;
     }
 }
 

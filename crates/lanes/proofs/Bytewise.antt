@@ -334,17 +334,20 @@ named-16 x s h = ap (λ (b : ℕ). eqb b 1) (go s h)
 
 -- ---- the loops that store blocks
 
+-- byte i of what is merged from byte here on with what stands from byte there on
+abbrev pub mergedAt : (row x : List ℕ) (here there i : ℕ) → ℕ
+mergedAt row x here there i = mergedByte (getD x (here + i) 0) (getD x (there + i) 0) (getD row i 0)
+
 -- byte k of sixteen blocks of the permuted frame
-pub permuted-at : (t : List ℕ) → IsMasks t → (e b k : ℕ) (row x : List ℕ) → AllBytes x → e < 16 → b < 66 → k < 80
-    → row ≡ tabulate 80 (λ i. getD t (5 * e + i % 5) 0)
-    → mergedByte (getD x (80 * b + k) 0) (getD x ((80 * b + 2640) % 5280 + k) 0) (getD row k 0) ≡ permutedByte e x (80 * b + k)
-permuted-at t T e b k row x X he hb hk r =
-    let i : ℕ = 80 * b + k in
-    let o : (80 * b + 2640) % 5280 + k ≡ (i + 2640) % 5280 = omega arith in
-    let c : k % 5 ≡ i % 5 = omega arith in
-    let m : getD row k 0 ≡ getD t (5 * e + i % 5) 0 =
-    ap (λ (l : List ℕ). getD l k 0) r ∙ getD-tabulate 80 _ k 0 hk ∙ ap (λ (j : ℕ). getD t (5 * e + j) 0) c in
-    (λ z. mergedByte (getD x i 0) (getD x (o z) 0) (m z)) ∙ permuted-byte t T e i x X he (omega arith)
+pub permuted-at : (t : List ℕ) → IsMasks t → (e b : ℕ) (row x : List ℕ) → AllBytes x → e < 16 → b < 66 → row ≡ tabulate 80 (λ i. getD t (5 * e + i % 5) 0)
+    → (k : ℕ) → k < 80 → mergedAt row x (80 * b) ((80 * b + 2640) % 5280) k ≡ permutedByte e x (80 * b + k)
+permuted-at t T e b row x X he hb r k hk = at (80 * b + k) ((80 * b + 2640) % 5280 + k) (omega arith) (omega arith) (omega arith)
+  where
+    at : (i j : ℕ) → i < 5280 → j ≡ (i + 2640) % 5280 → k % 5 ≡ i % 5 → mergedByte (getD x i 0) (getD x j 0) (getD row k 0) ≡ permutedByte e x i
+    at i j h o c =
+        ap₂ (mergedByte (getD x i 0)) (ap (λ (n : ℕ). getD x n 0) o)
+        (ap (λ (l : List ℕ). getD l k 0) r ∙ getD-tabulate 80 (λ i. getD t (5 * e + i % 5) 0) k 0 hk ∙ ap (λ (n : ℕ). getD t (5 * e + n) 0) c)
+        ∙ permuted-byte t T e i x X he h
 
 -- byte i of the blocks of lane p that the entries of the table t lead to, from entry first on
 abbrev pub movedByte : (z t : List ℕ) (p first i : ℕ) → ℕ

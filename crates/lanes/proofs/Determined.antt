@@ -9,8 +9,10 @@ use Rattle.lanes.proofs.deinterleave.Kinds as deinterleave-kinds
 use Rattle.lanes.proofs.deinterleave.Reads as deinterleave-reads
 
 -- no result, and the store and the frame at exit
-pub interleave-determined : Fixes 3 interleave-kinds.ps interleave-kinds.r interleave-reads.Post (λ κs s t. (now (s .1 .1 .0) ≡ now (t .1 .1 .0)) × (now (s .1 .1 .1 .0) ≡ now (t .1 .1 .1 .0)))
+pub interleave-determined : Fixes 3 interleave-kinds.ps interleave-kinds.r interleave-reads.Post
+    (λ κs s t. (now (s .1 .1 .0) ≡ now (t .1 .1 .0)) × (now (s .1 .1 .1 .0) ≡ now (t .1 .1 .1 .0)))
 interleave-determined κs a x y s t p q = (refl, (p .1 ∙ sym (q .1), p .0 ∙ sym (q .0)))
 
-pub deinterleave-determined : Fixes 3 deinterleave-kinds.ps deinterleave-kinds.r deinterleave-reads.Post (λ κs s t. (now (s .1 .1 .0) ≡ now (t .1 .1 .0)) × (now (s .1 .1 .1 .0) ≡ now (t .1 .1 .1 .0)))
+pub deinterleave-determined : Fixes 3 deinterleave-kinds.ps deinterleave-kinds.r deinterleave-reads.Post
+    (λ κs s t. (now (s .1 .1 .0) ≡ now (t .1 .1 .0)) × (now (s .1 .1 .1 .0) ≡ now (t .1 .1 .1 .0)))
 deinterleave-determined κs a x y s t p q = (refl, (p .1 ∙ sym (q .1), p .0 ∙ sym (q .0)))

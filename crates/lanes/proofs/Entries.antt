@@ -21,13 +21,13 @@ use Rattle.lanes.proofs.Lists.{senderSources, receiverSources, masks}
 source-ok : Rows → ℕ → ℕ → Bool
 source-ok R b x = eqb x (source R b) && ltb x 51
 
-sent-test : T (every (source-ok sender) 0 senderSources)
+sender-test : T (every (source-ok sender) 0 senderSources)
 unfolding source-ok source outFrom keptFrom
-sent-test = tt
+sender-test = tt
 
-back-test : T (every (source-ok receiver) 0 receiverSources)
+receiver-test : T (every (source-ok receiver) 0 receiverSources)
 unfolding source-ok source outFrom keptFrom
-back-test = tt
+receiver-test = tt
 
 module _ (R : Rows) (t : List ℕ) (size : length t ≡ 51) (test : T (every (source-ok R) 0 t)) where
   pass : (b : ℕ) → b < 51 → T (source-ok R b (getD t b 0))
@@ -45,17 +45,17 @@ module _ (R : Rows) (t : List ℕ) (size : length t ≡ 51) (test : T (every (so
       at b (yes h) = ltb→lt (getD t b 0) 51 (and-right (eqb (getD t b 0) (source R b)) (ltb (getD t b 0) 51) (pass b h))
       at b (no h) = let out : length t ≤ b = omega arith in rw List·getD-eq-default (lit< tt)
 
-pub sends : IsSource sender senderSources
-sends = is-source sender senderSources refl sent-test
+pub sender-source : IsSource sender senderSources
+sender-source = is-source sender senderSources refl sender-test
 
-pub sends-below : Below51 senderSources
-sends-below = below-51 sender senderSources refl sent-test
+pub sender-below : Below51 senderSources
+sender-below = below-51 sender senderSources refl sender-test
 
-pub brings : IsSource receiver receiverSources
-brings = is-source receiver receiverSources refl back-test
+pub receiver-source : IsSource receiver receiverSources
+receiver-source = is-source receiver receiverSources refl receiver-test
 
-pub brings-below : Below51 receiverSources
-brings-below = below-51 receiver receiverSources refl back-test
+pub receiver-below : Below51 receiverSources
+receiver-below = below-51 receiver receiverSources refl receiver-test
 
 -- ---- the masks
 

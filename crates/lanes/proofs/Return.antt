@@ -8,7 +8,8 @@ use Prim.Native.Nat.{ℕ, _+_, _*_, _-_, _/_, _%_, _≤_, _<_}
 use native.Mathlib.Omega.{arith}
 use lib.Dec.{lit<}
 use Rattle.lanes.specs.definitions.Permutation.{Lanes, Places, partner, permuted}
-use Rattle.lanes.specs.definitions.Stream.{delayed, interleaved, deinterleaved}
+use Rattle.lanes.specs.definitions.Stream.{delayed, interleaved}
+use Rattle.lanes.specs.private.Stream.{deinterleaved}
 use Rattle.lanes.proofs.Rows.{lt-or-le, delayed-early, delayed-at}
 
 -- the lane with which symbol s of lane p stands after the permutation
@@ -77,7 +78,8 @@ module _ (ex : Places) where
       let j = i - d in
       deinterleaved-is (interleaved ex x) p i
       ∙ ⊎-elim (λ (l : i < d). delayed-early d (interleaved ex x q) i l)
-      (λ (l : d ≤ i). delayed-at d (interleaved ex x q) i j (omega arith) ∙ delayed-early (40 * (18 * (j / 40 % 3))) (permuted ex x q) j (omega arith)) (lt-or-le i d)
+      (λ (l : d ≤ i). delayed-at d (interleaved ex x q) i j (omega arith) ∙ delayed-early (40 * (18 * (j / 40 % 3))) (permuted ex x q) j (omega arith))
+      (lt-or-le i d)
 
   -- what comes back by bit i depends on what has arrived by then
   pub deinterleaved-cong : (x y : Lanes) (p i : ℕ) → p < 32 → ((q j : ℕ) → q < 32 → j ≤ i → x q j ≡ y q j) → deinterleaved ex x p i ≡ deinterleaved ex y p i

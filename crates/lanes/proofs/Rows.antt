@@ -106,9 +106,11 @@ receiver-apart (suc (suc (suc r))) j hr hj = absurd (omega arith)
 pub record Run (R : Rows) (n : ℕ) (ins outs stores : ℕ → ℕ → ℕ) : Type 0 where
   pub fresh : (j : ℕ) → j < 18 → stores 0 j ≡ 0
   pub out : (f b : ℕ) → f < n → b < 33
-      → outs f b ≡ cond (ltb (b / 3) (R .depth (b % 3))) (stores f (R .start (b % 3) + (R .depth (b % 3) - suc (b / 3)))) (ins f (3 * (b / 3 - R .depth (b % 3)) + b % 3))
+      → outs f b ≡ cond (ltb (b / 3) (R .depth (b % 3))) (stores f (R .start (b % 3) + (R .depth (b % 3) - suc (b / 3))))
+      (ins f (3 * (b / 3 - R .depth (b % 3)) + b % 3))
   pub next : (f j : ℕ) → f < n → j < 18
-      → stores (suc f) j ≡ cond (ltb (j - R .start (rowAt R j)) 11) (ins f (3 * (11 - suc (j - R .start (rowAt R j))) + rowAt R j)) (stores f (R .start (rowAt R j) + (j - R .start (rowAt R j) - 11)))
+      → stores (suc f) j ≡ cond (ltb (j - R .start (rowAt R j)) 11) (ins f (3 * (11 - suc (j - R .start (rowAt R j))) + rowAt R j))
+      (stores f (R .start (rowAt R j) + (j - R .start (rowAt R j) - 11)))
 
 module _ (R : Rows) (apart : Apart R) (n : ℕ) (ins outs stores : ℕ → ℕ → ℕ) (run : Run R n ins outs stores)
     (x : ℕ → ℕ) (cut : (f b : ℕ) → f < n → b < 33 → ins f b ≡ x (33 * f + b)) where
@@ -130,7 +132,8 @@ module _ (R : Rows) (apart : Apart R) (n : ℕ) (ins outs stores : ℕ → ℕ �
           let d : R .start r + j - R .start r ≡ j = omega arith in
           run .next f (R .start r + j) h (apart r j hr hj .0)
           ∙ rw (q, d)
-          (row-next (R .depth r) (11 * f) (λ k. x (3 * k + r)) (λ i. stores f (R .start r + i)) (λ k. ins f (3 * k + r)) (k r hr) (λ i l. row-cut f r i h hr l) j hj
+          (row-next (R .depth r) (11 * f) (λ k. x (3 * k + r)) (λ i. stores f (R .start r + i)) (λ k. ins f (3 * k + r)) (k r hr)
+          (λ i l. row-cut f r i h hr l) j hj
           ∙ ap (delayed (suc j) (λ k. x (3 * k + r))) (omega arith))
 
   -- the block rule

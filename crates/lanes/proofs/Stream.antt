@@ -12,8 +12,10 @@ use lib.ListN.{length, getD, replicate, length-replicate, getD-replicate, List·
 use Rattle.bits.specs.definitions.Bits.{bitOf, bitAt}
 use Rattle.bits.proofs.Fields.{bitAt-lt, bytes-bit}
 use Rattle.lanes.specs.definitions.Permutation.{Lanes, Places, partner, permuted, lanesOf}
-use Rattle.lanes.specs.definitions.Interleaver.{Rows, sender, receiver, stored, rowsOut, rowAt, storeBit, storeNext, interleavedFrame, interleavedStore, deinterleavedFrame, deinterleavedStore}
-use Rattle.lanes.specs.definitions.Stream.{streamBit, delayed, interleaved, deinterleaved, Interleaves, Deinterleaves}
+use Rattle.lanes.specs.definitions.Interleaver.{Rows, sender, receiver, stored, rowsOut, rowAt, storeBit, storeNext, interleavedFrame, interleavedStore}
+use Rattle.lanes.specs.definitions.Interleaver.{deinterleavedFrame, deinterleavedStore}
+use Rattle.lanes.specs.definitions.Stream.{streamBit, delayed, interleaved}
+use Rattle.lanes.specs.private.Stream.{deinterleaved, Interleaves, Deinterleaves}
 use Rattle.lanes.proofs.Bytewise.{frame-bit, permuted-lt, rows-out-lt, lanes-lt}
 use Rattle.lanes.proofs.Rows.{Apart, sender-apart, receiver-apart, Run, run-law, delayed-grain}
 
@@ -41,12 +43,14 @@ store-lt R s x bit p i = go (ltb q 11)
     go false = bitAt-lt s (720 * p + (40 * (R .start r + (q - 11)) + i % 40))
 
 -- the bits of the store that is kept
-pub stored-bit : (R : Rows) (s : List ℕ) (x : Lanes) → ((p i : ℕ) → x p i < 2) → (p i : ℕ) → p < 32 → i < 720 → stored (storeNext R s x) p i ≡ storeBit R s x p i
+pub stored-bit : (R : Rows) (s : List ℕ) (x : Lanes) → ((p i : ℕ) → x p i < 2) → (p i : ℕ) → p < 32 → i < 720
+    → stored (storeNext R s x) p i ≡ storeBit R s x p i
 unfolding storeNext
 stored-bit R s x bit p i hp hi =
     let e : (720 * p + i) / 720 ≡ p = omega arith in
     let f : (720 * p + i) % 720 ≡ i = omega arith in
-    bytes-bit 2880 (λ j. storeBit R s x (j / 720) (j % 720)) (λ j h. store-lt R s x bit (j / 720) (j % 720)) (720 * p + i) (omega arith) ∙ ap₂ (storeBit R s x) e f
+    bytes-bit 2880 (λ j. storeBit R s x (j / 720) (j % 720)) (λ j h. store-lt R s x bit (j / 720) (j % 720)) (720 * p + i) (omega arith)
+    ∙ ap₂ (storeBit R s x) e f
 
 -- n frames of lanes xs, which are the stream X cut, through the rows R
 module _ (R : Rows) (apart : Apart R) (n : ℕ) (xs : ℕ → Lanes) (bit : (f p i : ℕ) → xs f p i < 2) (stores : ℕ → List ℕ) (X : Lanes)
@@ -108,7 +112,8 @@ module _ (ex : Places) (n : ℕ) (ins outs stores : ℕ → List ℕ) (p i : ℕ
       let d : 40 * (3 * (6 * (i / 40 % 3))) ≡ 40 * (18 * (i / 40 % 3)) = omega arith in
       ap (λ (l : List ℕ). lanesOf l p (i % 1320)) (W .out f (omega arith))
       ∙ frame-bit (rowsOut sender (stores f) x) (rows-out-lt sender (stores f) x (lt f)) p (i % 1320) hp (omega arith)
-      ∙ rows-law sender sender-apart n (λ f. permuted ex (lanesOf (ins f))) lt stores (permuted ex (streamBit ins)) (λ f p u hf hu. permuted-cut ex ins f p u hu)
+      ∙ rows-law sender sender-apart n (λ f. permuted ex (lanesOf (ins f))) lt stores (permuted ex (streamBit ins))
+      (λ f p u hf hu. permuted-cut ex ins f p u hu)
       (W .fresh) (W .next) p i hp hi
       ∙ ap (λ (k : ℕ). delayed k (permuted ex (streamBit ins) p) i) d
 
@@ -122,7 +127,8 @@ module _ (ex : Places) (n : ℕ) (ins outs stores : ℕ → List ℕ) (p i : ℕ
       ∙ frame-bit (permuted ex w) (permuted-lt ex w (rows-out-lt receiver (stores f) (lanesOf (ins f)) (lanes-lt (ins f)))) p (i % 1320) hp (omega arith)
       ∙ (λ k. cond (ex (s k)) (row (partner p) (omega arith) k) (row p hp k))
     where
-      row : (q : ℕ) → q < 32 → rowsOut receiver (stores (i / 1320)) (lanesOf (ins (i / 1320))) q (i % 1320) ≡ delayed (40 * (18 * (2 - i / 40 % 3))) (streamBit ins q) i
+      row : (q : ℕ) → q < 32 → rowsOut receiver (stores (i / 1320)) (lanesOf (ins (i / 1320))) q (i % 1320) ≡ delayed (40 * (18 * (2 - i / 40 % 3)))
+          (streamBit ins q) i
       row q hq =
           let d : 40 * (3 * (12 - 6 * (i / 40 % 3))) ≡ 40 * (18 * (2 - i / 40 % 3)) = omega arith in
           rows-law receiver receiver-apart n (λ f. lanesOf (ins f)) (λ f. lanes-lt (ins f)) stores (streamBit ins) (λ f p u hf hu. stream-cut ins f p u hu)

@@ -110,7 +110,7 @@ pub const RECEIVER: [usize; 51] = [
     16,
 ];
 
-// Which bits of byte c of a block are exchanged with the partner lane, at 5 e + c for the set of places named e.
+// Which bits of byte c of a block are exchanged with the partner lane, at 5 e + c for the set of places named e, which has 2^s for place s.
 pub const MASKS: [u8; 80] = [
     0,
     0,

@@ -33,7 +33,7 @@ is-parts = record { entry = entry }
         eqb→eq (getD parts k 0) (partsOf (k / 1024) (k / 256 % 4) (k % 256)) (table-rule parts-ok parts parts-test k (omega arith))
         ∙ λ i. partsOf (p i) (q i) (m i)
 
--- symbol l's byte, from the byte y of four pairs of bits in the lanes' order
+-- symbol l's byte, from the byte y of four dibits in the lanes' order
 unfoldable pub mapped : ℕ → ℕ → ℕ
 mapped l y = number 8 (λ i. bitOf 8 y (2 * laneIn l (i / 2) + (i + l) % 2))
 

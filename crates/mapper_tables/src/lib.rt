@@ -3,7 +3,7 @@ ghost use Rattle.mapper_tables.specs.private.Tables.{IsParts, IsDibits};
 
 mod tables;
 
-// What four pairs of bits of a lane put into four symbols.
+// What four dibits of a lane put into four symbols.
 pub fn parts() -> [u32; 4096]
     ensures { λ t. ⌜ IsParts t ⌝ }
 {

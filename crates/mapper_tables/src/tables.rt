@@ -1,6 +1,6 @@
 // The tables of the mapping. Written by the program `tables` of second/; proofs/Entries has the rule of each, by a test over the whole table.
 
-// For each remainder of a symbol's number by 4, each lane of four and each byte of four pairs of its bits: what they put into the bytes of four symbols.
+// What the byte b of four dibits of lane r, of four, puts into the bytes of symbols l to l + 3, the first on top: at 1024 l + 256 r + b.
 pub const PARTS: [u32; 4096] = [
     0,
     32,
@@ -4100,7 +4100,7 @@ pub const PARTS: [u32; 4096] = [
     3221434380,
 ];
 
-// For each remainder of a symbol's number by 4, and each symbol's byte: the four lanes' pairs of bits, in fields of 16 bits.
+// The four lanes' dibits in the byte x of symbol l, in fields of 16 bits, lane 0 on top: at 256 l + x.
 pub const DIBITS: [u64; 1024] = [
     0,
     1,

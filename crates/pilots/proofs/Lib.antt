@@ -1,3 +1,4 @@
 pub mod Levels
-pub mod Pilots
+pub mod Table4
+pub mod Lock
 pub mod Determined

@@ -47,7 +47,7 @@ pub fn level_label(level: i8) -> Label
 }
 
 // The 96 pilots.
-pub fn table() -> [u8; 96]
+pub fn pilots() -> [u8; 96]
     ensures { λ t. ⌜ t ≡ pilots ⌝ }
 {
     tables::PILOTS
@@ -78,7 +78,7 @@ fn wrong(t: &[u8; 96], symbols: &[u8], offset: usize, i: usize) -> u64
 pub fn locks(symbols: &[u8], offset: usize) -> bool
     ensures { λ r. ⌜ r ≡ locks (now (symbols .entry)) offset ⌝ }
 {
-    let t = tables::PILOTS;
+    let t = pilots();
     let mut n: u64 = 0;
     let mut i: usize = 0;
     while i < 96 {

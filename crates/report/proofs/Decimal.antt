@@ -100,7 +100,8 @@ leads (suc k) n h o = go (lt-or-le n 10) (leads k (n / 10) (tenth k n h))
     go (inl l) ih z = let e = ap (λ (t : List ℕ). getD t 0 0) (one-digit k n l) in omega arith
     go (inr l) ih z =
         ih (omega arith)
-        (sym (ap (λ (t : List ℕ). getD t 0 0) (more-digits k n l) ∙ List·getD-append (digits k (n / 10)) ((48 + n % 10) ∷ []) 0 0 (some k (n / 10) (tenth k n h) (omega arith))) ∙ z)
+        (sym (ap (λ (t : List ℕ). getD t 0 0) (more-digits k n l) ∙ List·getD-append (digits k (n / 10)) ((48 + n % 10) ∷ []) 0 0
+        (some k (n / 10) (tenth k n h) (omega arith))) ∙ z)
 
 pub decimal-reads : DecimalReads
 unfolding digits tabulate
@@ -140,8 +141,8 @@ module _ {t to : List ℕ} {rest : ℕ} (k : ℕ) (S : Spelling t to (suc k) res
   inside = omega (arith, S .upto, S .size)
 
   -- other digits are to come before it
-  turn : 10 ≤ rest → Spelling t (set to k (48 + rest % 10)) k (rest / 10)
-  turn h =
+  one-more : 10 ≤ rest → Spelling t (set to k (48 + rest % 10)) k (rest / 10)
+  one-more h =
       record {
         some = room k (S .less);
         upto = (let u = S .upto in omega arith);
@@ -167,7 +168,7 @@ module _ {t to : List ℕ} {i rest : ℕ} (S : Spelling t to i rest) where
   next = subst (λ (j : ℕ). Spelling t to j rest) (let q = S .some in omega arith) S
 
   pub spelling-step : 10 ≤ rest → Spelling t (set to (i - 1) (48 + rest % 10)) (i - 1) (rest / 10)
-  spelling-step h = turn (i - 1) next h
+  spelling-step h = one-more (i - 1) next h
 
   pub spelling-done : rest < 10 → drop (i - 1) (set to (i - 1) (48 + rest)) ≡ t
   spelling-done h = done (i - 1) next h

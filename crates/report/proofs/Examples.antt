@@ -16,7 +16,8 @@ use Rattle.bench.proofs.Walk.{walked-one, walked-end, walked-stays}
 
 -- 01's lone order
 pub lone-order : LoneOrder
-unfolding examined walked readAt bigEndianAt value orderAt refusedOr refusalAt cameAs orderCame text figureLines verdictLine verdictName digits tabulate verdictOf goesOn verdict measured
+unfolding examined walked readAt bigEndianAt value orderAt refusedOr refusalAt cameAs orderCame text figureLines verdictLine verdictName digits tabulate
+    verdictOf goesOn verdict measured
 lone-order = refl
 
 -- no order first: the run is as it began, or stopped at once
@@ -30,6 +31,9 @@ no-order s h = from (length s)
       where
         at : (r : Read) → readAt s 0 ≡ r → text (walked (suc n) s 0 fresh .run) ≡ text begun
         at End e = ap (λ (st : State). text (st .run)) (walked-end (suc n) s 0 fresh e)
-        at (Refused refusal) e = ap (λ (st : State). text (st .run)) (walked-one n s 0 fresh (Refused refusal) e ∙ walked-stays (cameAs (Refused refusal) fresh s) refl n s 0)
+        at (Refused refusal) e =
+            ap (λ (st : State). text (st .run)) (walked-one n s 0 fresh (Refused refusal) e ∙ walked-stays (cameAs (Refused refusal) fresh s) refl n s 0)
         at (Order start asked allowed next) e = absurd (h start asked allowed next e)
-        at (Frame number from next) e = ap (λ (st : State). text (st .run)) (walked-one n s 0 fresh (Frame number from next) e ∙ walked-stays (cameAs (Frame number from next) fresh s) refl n s next)
+        at (Frame number from next) e =
+            ap (λ (st : State). text (st .run)) (walked-one n s 0 fresh (Frame number from next) e
+            ∙ walked-stays (cameAs (Frame number from next) fresh s) refl n s next)

@@ -34,7 +34,8 @@ wrote-copied from out at part h e =
       is =
           ap (λ (t : List ℕ). take (at + length from) (take at out ++ (t ++ rest))) (e ∙ copied-all from room (sym size))
           ∙ ap (take (at + length from)) (sym (append-assoc (take at out) from rest))
-          ∙ take-at (take at out ++ from) rest (at + length from) (length-append (take at out) from ∙ ap (λ (k : ℕ). k + length from) (length-take-le at out (omega arith)));
+          ∙ take-at (take at out ++ from) rest (at + length from) (length-append (take at out) from
+          ∙ ap (λ (k : ℕ). k + length from) (length-take-le at out (omega arith)));
     }
   where
     room : List ℕ
@@ -73,8 +74,11 @@ module _ (run : Run) (out first whole : List ℕ) (n : ℕ) (w : Wrote (text run
   pub all-written : (left : List ℕ) → n ≤ length out → left ≡ copied (take (n - 0) (drop 0 whole)) out → (n ≡ writtenBytes run out) × (left ≡ written run out)
   unfolding writtenBytes written copied
   all-written left h e =
-      let f = le-leb (length (text run)) (length out) (rw long h) in
-      (rw f (sym long), rw f (e ∙ ap (λ (k : ℕ). copied (take k whole) out) (zeroed n) ∙ ap (λ (t : List ℕ). copied t out) is-text ∙ ap (λ (t : List ℕ). t ++ drop (length (text run)) out) (take-all (length out) (text run) (rw long h))))
+      let f = le-leb (length (text run)) (length out) (rw long h) in (
+        rw f (sym long),
+        rw f (e ∙ ap (λ (k : ℕ). copied (take k whole) out) (zeroed n) ∙ ap (λ (t : List ℕ). copied t out) is-text
+            ∙ ap (λ (t : List ℕ). t ++ drop (length (text run)) out) (take-all (length out) (text run) (rw long h))),
+      )
     where
       zeroed : (k : ℕ) → k - 0 ≡ k
       zeroed k = omega arith
@@ -83,7 +87,8 @@ module _ (run : Run) (out first whole : List ℕ) (n : ℕ) (w : Wrote (text run
 pub text-written : (run : Run) (out left : List ℕ) (n : ℕ) → length (text run) ≤ length out → (n ≡ writtenBytes run out) × (left ≡ written run out)
     → (n ≤ length left) × (take n left ≡ text run)
 unfolding writtenBytes written
-text-written run out left n h (e, f) = rw (e, f, le-leb (length (text run)) (length out) h) (inside, take-at (text run) (drop (length (text run)) out) (length (text run)) refl)
+text-written run out left n h (e, f) =
+    rw (e, f, le-leb (length (text run)) (length out) h) (inside, take-at (text run) (drop (length (text run)) out) (length (text run)) refl)
   where
     inside : length (text run) ≤ length (text run ++ drop (length (text run)) out)
     inside = let l = length-append (text run) (drop (length (text run)) out) in omega arith

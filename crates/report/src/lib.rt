@@ -96,8 +96,8 @@ fn put_text(out: &mut [u8], run: bench::Run) -> usize
     let v = bench::verdict_of(run);
     let asked = bits::wide32(run.asked);
     let frames = put_frames(out, asked, a.accepted, a.missing);
-    let figureLines = put_tallies(out, frames, t.clean, t.one, t.two, t.flagged);
-    put_verdict(out, figureLines, v)
+    let figures = put_tallies(out, frames, t.clean, t.one, t.two, t.flagged);
+    put_verdict(out, figures, v)
 }
 
 // The report of a run, at the beginning of a lent buffer; the answer is how many bytes it takes. A buffer too small for it is not touched, and the answer is 0.

@@ -1,2 +1,3 @@
 pub mod Rotating
 pub mod Places
+pub mod Determined

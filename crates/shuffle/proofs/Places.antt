@@ -1,9 +1,9 @@
 -- The shuffle undone: `unplace` is the inverse of `place`; and a row of words rotated by 20 places a lane is shuffled, by 90 it is shuffled back.
 -- Assumes nothing.
-use mathlib.Core.Path.{_≡_, ap, _∙_}
+use mathlib.Core.Path.{_≡_, ap}
 use mathlib.Core.Bool.{cond}
 use mathlib.Core.List.{List}
-use Prim.Native.Nat.{ℕ, _+_, _-_, _*_, _%_, _<_, _≤_}
+use Prim.Native.Nat.{ℕ, _+_, _-_, _*_, _%_, _<_}
 use native.Mathlib.Decide.{decLt}
 use native.Mathlib.Omega.{arith}
 use lib.Dec.{ltb}
@@ -16,56 +16,47 @@ use Rattle.bits.proofs.Words.{row-cong, row-long}
 use Rattle.shuffle.specs.definitions.Shuffle.{place, unplace, shuffled, unshuffled}
 use Rattle.shuffle.specs.private.Rotation.{rotatedFrom, rotated, rotatedRow}
 
-place-in : (p q : ℕ) → q < 110 → place p q ≡ (q + 20 * p) % 110
-unfolding place
-place-in p q h = rw (lt-ltb q 110 h)
+-- n places on round the 110 of the information; the parity's places stay
+abbrev onBy : ℕ → ℕ → ℕ
+onBy n q = cond (ltb q 110) ((q + n) % 110) q
 
-place-out : (p q : ℕ) → 110 ≤ q → place p q ≡ q
-unfolding place
-place-out p q h = rw (le-ltb q 110 h)
+-- m places on and n places on make whole turns
+on-back : (m n q : ℕ) → (m + n) % 110 ≡ 0 → onBy n (onBy m q) ≡ q
+on-back m n q e = go (decLt q 110)
+  where
+    go : Dec (q < 110) → onBy n (onBy m q) ≡ q
+    go (yes h) = rw (lt-ltb q 110 h, lt-ltb ((q + m) % 110) 110 (omega arith)) (omega arith)
+    go (no h) = rw (le-ltb q 110 (omega arith), le-ltb q 110 (omega arith))
 
-unplace-in : (p r : ℕ) → r < 110 → unplace p r ≡ (r + 90 * p) % 110
-unfolding unplace
-unplace-in p r h = rw (lt-ltb r 110 h)
-
-unplace-out : (p r : ℕ) → 110 ≤ r → unplace p r ≡ r
-unfolding unplace
-unplace-out p r h = rw (le-ltb r 110 h)
+on-lt : (n q : ℕ) → q < 126 → onBy n q < 126
+on-lt n q h = go (decLt q 110)
+  where
+    go : Dec (q < 110) → onBy n q < 126
+    go (yes l) = rw (lt-ltb q 110 l) (omega arith)
+    go (no l) = rw (le-ltb q 110 (omega arith)) h
 
 pub unplace-place : (p q : ℕ) → unplace p (place p q) ≡ q
-unplace-place p q = go (decLt q 110)
-  where
-    go : Dec (q < 110) → unplace p (place p q) ≡ q
-    go (yes h) = ap (unplace p) (place-in p q h) ∙ unplace-in p ((q + 20 * p) % 110) (omega arith) ∙ omega arith
-    go (no h) = ap (unplace p) (place-out p q (omega arith)) ∙ unplace-out p q (omega arith)
+unfolding place unplace
+unplace-place p q = on-back (20 * p) (90 * p) q (omega arith)
 
 pub place-unplace : (p r : ℕ) → place p (unplace p r) ≡ r
-place-unplace p r = go (decLt r 110)
-  where
-    go : Dec (r < 110) → place p (unplace p r) ≡ r
-    go (yes h) = ap (place p) (unplace-in p r h) ∙ place-in p ((r + 90 * p) % 110) (omega arith) ∙ omega arith
-    go (no h) = ap (place p) (unplace-out p r (omega arith)) ∙ place-out p r (omega arith)
+unfolding place unplace
+place-unplace p r = on-back (90 * p) (20 * p) r (omega arith)
 
 pub place-lt : (p q : ℕ) → q < 126 → place p q < 126
-place-lt p q h = go (decLt q 110)
-  where
-    go : Dec (q < 110) → place p q < 126
-    go (yes l) = rw (place-in p q l) (omega arith)
-    go (no l) = rw (place-out p q (omega arith)) h
+unfolding place
+place-lt p q h = on-lt (20 * p) q h
 
 pub unplace-lt : (p r : ℕ) → r < 126 → unplace p r < 126
-unplace-lt p r h = go (decLt r 110)
-  where
-    go : Dec (r < 110) → unplace p r < 126
-    go (yes l) = rw (unplace-in p r l) (omega arith)
-    go (no l) = rw (unplace-out p r (omega arith)) h
+unfolding unplace
+unplace-lt p r h = on-lt (90 * p) r h
 
 -- rotated by m places, where m and n make whole turns of 110, the bit that comes to a place is n places on
-from-on : (m n r : ℕ) → (m + n) % 110 ≡ 0 → rotatedFrom (m % 110) r ≡ cond (ltb r 110) ((r + n) % 110) r
+from-on : (m n r : ℕ) → (m + n) % 110 ≡ 0 → rotatedFrom (m % 110) r ≡ onBy n r
 unfolding rotatedFrom
 from-on m n r e = go (decLt r 110)
   where
-    go : Dec (r < 110) → cond (ltb r 110) ((r + (110 - m % 110)) % 110) r ≡ cond (ltb r 110) ((r + n) % 110) r
+    go : Dec (r < 110) → onBy (110 - m % 110) r ≡ onBy n r
     go (yes h) = rw (lt-ltb r 110 h) (omega arith)
     go (no h) = rw (le-ltb r 110 (omega arith))
 

@@ -21,7 +21,6 @@ use Rattle.bits.specs.definitions.Words.{wordAt, halfOf}
 use Rattle.bits.proofs.Value.{value-cong, value-lt, value-append, value-top, value-low, bit-lt, number-bits}
 use Rattle.bits.proofs.Joins.{cross-lt, cross-bits}
 use Rattle.bits.proofs.Tabulate.{is-tabulate}
-use Rattle.bits.proofs.Tabulate.{length-tabulate}
 use Rattle.shuffle.specs.private.Rotation.{rotatedFrom, rotated, crossed, rotatedFirst, Holds, LaneRotated, rotatedRow}
 
 pow-64 : (n : ℕ) → n < 55 → 2 ^ n < 2 ^ 64
@@ -89,22 +88,22 @@ module _ (n : ℕ) (h : n < 110) (f : ℕ → ℕ) (bit : (i : ℕ) → f i < 2)
           (crossed-is (n - 55) (omega arith) f (λ i. f (55 + i)) (λ r. f (rotatedFrom n r)) bit (λ i. bit (55 + i))
           (λ i b. at i (55 - (n - 55) + i) (omega arith) (omega arith)) (λ i b. at (n - 55 + i) (55 + i) (omega arith) (omega arith)))
 
-  rotated-second : number 55 (λ r. f (rotatedFrom n (55 + r))) ≡ rotatedFirst n second first
-  unfolding rotatedFirst first second
-  rotated-second = go (decLt n 55)
-    where
-      go : Dec (n < 55) → number 55 (λ r. f (rotatedFrom n (55 + r))) ≡ cond (ltb n 55) (crossed n first second) (crossed (n - 55) second first)
-      go (yes l) =
-          rw (lt-ltb n 55 l)
-          (crossed-is n (omega arith) f (λ i. f (55 + i)) (λ r. f (rotatedFrom n (55 + r))) bit (λ i. bit (55 + i))
-          (λ i b. at (55 + i) (55 - n + i) (omega arith) (omega arith)) (λ i b. at (55 + (n + i)) (55 + i) (omega arith) (omega arith)))
-      go (no l) =
-          rw (le-ltb n 55 (omega arith))
-          (crossed-is (n - 55) (omega arith) (λ i. f (55 + i)) f (λ r. f (rotatedFrom n (55 + r))) (λ i. bit (55 + i)) bit
-          (λ i b. at (55 + i) (55 + (55 - (n - 55) + i)) (omega arith) (omega arith)) (λ i b. at (55 + (n - 55 + i)) i (omega arith) (omega arith)))
-
   rotated-parity : number 16 (λ r. f (rotatedFrom n (110 + r))) ≡ number 16 (λ r. f (110 + r))
   rotated-parity = value-cong 2 16 _ _ (λ r b. ap f (back-out n (110 + r) (omega arith)))
+
+-- the second half is the first of the bits that begin with it
+rotated-second : (n : ℕ) → n < 110 → (f : ℕ → ℕ) → ((i : ℕ) → f i < 2)
+    → number 55 (λ r. f (rotatedFrom n (55 + r))) ≡ rotatedFirst n (number 55 (λ i. f (55 + i))) (number 55 f)
+unfolding first second
+rotated-second n h f bit =
+    value-cong 2 55 _ _ (λ r b. ap f (back-in n (55 + r) (omega arith) ∙ other r b ∙ ap (λ (q : ℕ). (q + 55) % 110) (sym (back-in n r (omega arith)))))
+    ∙ rotated-first n h (λ i. f ((i + 55) % 110)) (λ i. bit ((i + 55) % 110))
+    ∙ ap₂ (rotatedFirst n)
+    (value-cong 2 55 _ _ (λ i b. let e : (i + 55) % 110 ≡ 55 + i = omega arith in ap f e))
+    (value-cong 2 55 _ _ (λ i b. let e : (55 + i + 55) % 110 ≡ i = omega arith in ap f e))
+  where
+    other : (r : ℕ) → r < 55 → (55 + r + (110 - n)) % 110 ≡ ((r + (110 - n)) % 110 + 55) % 110
+    other r b = omega arith
 
 -- the word of the numbers hi and lo, rotated
 rotated-law : (n hi lo : ℕ) → n < 110 → hi < 2 ^ 62 → lo < 2 ^ 64
@@ -181,7 +180,7 @@ places-fit m p h l = let le : m * p ≤ m * 32 = mul-le-mul-left m (le-of-lt l) 
 
 -- ---- a row's words rotated lane by lane
 
--- a rotate of the loop over lane p, which stores word 32 k + p
+-- a step of the loop over lane p, which stores word 32 k + p
 module _ {n p : ℕ} {s o₀ : List ℕ} where
   pub lane-start : length o₀ ≡ 768 → LaneRotated n p s o₀ 0 o₀
   lane-start e = record { long = e; here = λ i _ _ l. absurd (not-suc-le-zero l); there = λ j _. refl }
@@ -250,7 +249,3 @@ module _ {m : ℕ} {s : List ℕ} where
           let e : j ≡ 2 * (j / 2) + 1 = omega arith in
           let q : j % 2 ≡ 1 = omega arith in
           rw q (ap (λ (k : ℕ). getD o k 0) e ∙ F .below (j / 2) (omega arith) (omega arith) .1)
-
-pub rotated-long : (m : ℕ) (s : List ℕ) → length (rotatedRow m s) ≡ 768
-unfolding rotatedRow
-rotated-long m s = length-tabulate 768 _

@@ -2,33 +2,35 @@
 -- Assumes nothing.
 use mathlib.Core.Path.{_≡_, refl, sym, ap, ap₂, _∙_, subst}
 use mathlib.Core.Logic.{_≢_}
-use mathlib.Core.Bool.{cond}
 use mathlib.Core.List.{List}
 use Prim.Native.Nat.{ℕ, zero, suc, _+_, _-_, _*_, _/_, _%_, _^_, _<_, _≤_, suc-le-suc, zero-le}
-use native.Mathlib.Nat.{add-assoc, lt-of-lt-of-le, pow-le-pow-right, mul-add-mod-self-right, add-mul-mod-self-right, mod-eq-of-lt, not-suc-le-zero, div-add-mod'}
-use native.Mathlib.Decide.{decLt, ℕ-discrete}
+use native.Mathlib.Nat.{add-assoc, lt-of-lt-of-le, pow-le-pow-right, mul-add-mod-self-right, add-mul-mod-self-right}
+use native.Mathlib.Nat.{mod-eq-of-lt, not-suc-le-zero, div-add-mod'}
+use native.Mathlib.Decide.{ℕ-discrete}
 use native.Mathlib.Numerals.{add-one}
 use native.Mathlib.Omega.{arith}
-use lib.Dec.{eqb, ltb}
 use lib.ListN.{length, getD, set, drop, length-set}
 use lib.Seq.{getD-drop, drop-drop, getD-set-same, getD-set-other}
-use borrow.Author.Tests.{lt-ltb, le-ltb}
 use Rattle.bits.specs.definitions.Bits.{value, number, bitOf, bitAt, tabulate}
-use Rattle.bits.specs.definitions.Words.{wordOf, wordAt, halfOf, rowOf}
+use Rattle.bits.specs.definitions.Words.{wordOf, wordAt}
 use Rattle.bits.proofs.Value.{value-more, value-cong, value-lt, value-append, value-top, value-low, bit-lt, bit-number}
 use Rattle.bits.proofs.Fields.{bitAt-lt, bitAt-byte}
-use Rattle.bits.proofs.Tabulate.{getD-tabulate, tabulate-cong, is-tabulate}
+use Rattle.bits.proofs.Tabulate.{getD-tabulate, is-tabulate}
 use Rattle.symbols.specs.declared.Quad.{Quad}
 use Rattle.shuffle.specs.definitions.Shuffle.{place, unshuffled}
 use Rattle.bits.proofs.Words.{row-cong}
 use Rattle.shuffle.proofs.Places.{place-lt}
 use Rattle.symbols.specs.definitions.Mapping.{payloadAt, symbolOf, tributaryOf, bitIn}
 use Rattle.symbols.specs.definitions.Frame.{placedBit, arrived, wordsOf}
-use Rattle.symbols.proofs.Symbols.{tributary-mod}
+use Rattle.symbols.proofs.Symbols.{tributary-mod, counted-mod}
 use Rattle.mapper_tables.specs.private.Tables.{tributaryIn, dibitOf, dibitsOf, IsDibits}
-use Rattle.symbols.specs.private.Numbers.{gathered, quadOf, fieldsOf, Room, joined, quadPut, gatheredAt, placedWord}
+use Rattle.symbols.specs.private.Numbers.{gathered, quadOf, fieldsOf, Room, joined, quadPut, gatheredAt}
 
--- ---- a symbol's pairs, by the table
+-- word i of a frame with its bits at their places
+abbrev placedWord : List ℕ → ℕ → ℕ
+placedWord f i = number 126 (placedBit f (i / 32) (i % 32))
+
+-- ---- a symbol's dibits, by the table
 
 pair-lt : (l r x : ℕ) → dibitOf l r x < 4
 unfolding dibitOf
@@ -76,7 +78,7 @@ module _ (l : ℕ) (s : List ℕ) (r : ℕ) where
       value-append 4 n m _
       ∙ ap (λ (v : ℕ). gathered n l s r * 4 ^ m + v) (value-cong 4 m _ _ (λ i _ k. dibitOf (sym (add-assoc l n i) k) r (sym (getD-drop n s i 0) k)))
 
--- ---- four numbers of at most 8 pairs in four fields
+-- ---- four numbers of at most 8 dibits in four fields
 
 module _ (s : List ℕ) (at l : ℕ) where
   pub fields-none : 0 ≡ fieldsOf 0 l (drop at s)
@@ -86,9 +88,9 @@ module _ (s : List ℕ) (at l : ℕ) where
   pub fields-step : (j v x : ℕ) → v ≡ fieldsOf j l (drop at s) → x ≡ dibitsOf (l + j) (getD s (at + j) 0) → v * 4 + x ≡ fieldsOf (j + 1) l (drop at s)
   unfolding fieldsOf dibitsOf
   fields-step j v x e p =
-      let g : (r : ℕ) → gathered (j + 1) l (drop at s) r ≡ gathered j l (drop at s) r * 4 + dibitOf (l + j) r (getD (drop at s) j 0) = λ r. gathered-more l (drop at s) r j in
+      let g = gathered-more l (drop at s) in
       let p′ = p ∙ ap (dibitsOf (l + j)) (sym (getD-drop at s j 0)) in
-      omega (arith, g 0, g 1, g 2, g 3, p′)
+      omega (arith, g 0 j, g 1 j, g 2 j, g 3 j, p′)
 
   -- room for one more pair in each field
   pub fields-room : (j v : ℕ) → j < 8 → v ≡ fieldsOf j l (drop at s) → v < 2 ^ 62
@@ -106,11 +108,13 @@ module _ (s : List ℕ) (at l : ℕ) where
   pub fields-done : (j v : ℕ) → j ≡ 8 → v ≡ fieldsOf j l (drop at s) → v ≡ fieldsOf 8 l (drop at s)
   fields-done j v e p = p ∙ ap (λ (n : ℕ). fieldsOf n l (drop at s)) e
 
-  -- ---- four numbers of at most 32 pairs
+  -- ---- four numbers of at most 32 dibits
 
   pub quad-none : record { a = 0; b = 0; c = 0; d = 0 } ≡ quadOf 0 l (drop at s)
   unfolding quadOf
-  quad-none = let g : (r : ℕ) → 0 ≡ gathered 0 l (drop at s) r = λ r. sym (gathered-none l (drop at s) r) in λ k. record { a = g 0 k; b = g 1 k; c = g 2 k; d = g 3 k }
+  quad-none =
+      let g : (r : ℕ) → 0 ≡ gathered 0 l (drop at s) r = λ r. sym (gathered-none l (drop at s) r) in
+      λ k. record { a = g 0 k; b = g 1 k; c = g 2 k; d = g 3 k }
 
   pub quad-room : (n : ℕ) (q : Quad) → n ≤ 24 → q ≡ quadOf n l (drop at s) → Room q
   unfolding quadOf
@@ -133,7 +137,8 @@ module _ (s : List ℕ) (at l : ℕ) where
       let b : v / 2 ^ 32 % 65536 ≡ gathered 8 (l + n) t 1 = omega arith in
       let c : v / 2 ^ 16 % 65536 ≡ gathered 8 (l + n) t 2 = omega arith in
       let d : v % 65536 ≡ gathered 8 (l + n) t 3 = omega arith in
-      let more : (i : ℕ) → gathered n l (drop at s) i * 65536 + gathered 8 (l + n) t i ≡ gathered (n + 8) l (drop at s) i = λ i. sym (gathered-append l (drop at s) i n 8) in
+      let more : (i : ℕ) → gathered n l (drop at s) i * 65536 + gathered 8 (l + n) t i ≡ gathered (n + 8) l (drop at s) i =
+      λ i. sym (gathered-append l (drop at s) i n 8) in
       h ∙ (λ k. record { a = e k .a * 65536 + a k; b = e k .b * 65536 + b k; c = e k .c * 65536 + c k; d = e k .d * 65536 + d k })
       ∙ λ k. record { a = more 0 k; b = more 1 k; c = more 2 k; d = more 3 k }
 
@@ -142,7 +147,7 @@ module _ (s : List ℕ) (at l : ℕ) where
 
 -- ---- the words of a frame
 
--- pairs of bits, and bits
+-- dibits, and bits
 pairs-number : (h : ℕ → ℕ) (n : ℕ) → value 4 n (λ i. h (2 * i) * 2 + h (2 * i + 1)) ≡ number (2 * n) h
 unfolding value
 pairs-number h zero = refl
@@ -202,46 +207,56 @@ module _ (f : List ℕ) (g r : ℕ) (h : g < 96) (b : r < 4) where
       (ap (λ (k : ℕ). bitOf 8 (getD f (g * 64 + 1 + j) 0) (2 * tributaryIn l r + k)) y ∙ sym (placed-at j 0 hj (omega arith)) ∙ ap bitsOf z)
       (sym (placed-at j 1 hj (omega arith)))
 
-  -- the first 32 symbols of a group, without the pilot's pair
-  upper-gathered : gathered 32 (g % 8 * 63 + 3) (drop (g * 64) f) r % 2 ^ 62 ≡ number 62 bitsOf
+  -- the dibit of symbol x of half u of the group, behind the pilot
+  half-pair : (u x : ℕ) → u < 2 → x < 32 → 1 ≤ 32 * u + x
+      → dibitOf (g * 63 + 3 + x) r (getD (drop (g * 64 + u * 32) f) x 0) ≡ bitsOf (64 * u + 2 * x - 2) * 2 + bitsOf (64 * u + 2 * x - 1)
+  half-pair u x hu hx behind =
+      let j = 32 * u + x - 1 in
+      let d : g * 64 + u * 32 + x ≡ g * 64 + 1 + j = omega arith in
+      let a : 2 * j ≡ 64 * u + 2 * x - 2 = omega arith in
+      let b : 2 * j + 1 ≡ 64 * u + 2 * x - 1 = omega arith in
+      let y = getD f (g * 64 + 1 + j) 0 in
+      ap (dibitOf (g * 63 + 3 + x) r) (getD-drop (g * 64 + u * 32) f x 0 ∙ ap (λ (k : ℕ). getD f k 0) d)
+      ∙ sym (pair-mod (g * 63 + 3 + x) r y) ∙ ap (λ (l : ℕ). dibitOf l r y) (counted-mod g u x behind) ∙ pair-mod (g % 8 * 63 + j) r y
+      ∙ placed-pair j (omega arith) ∙ λ k. bitsOf (a k) * 2 + bitsOf (b k)
+
+  -- the first 32 symbols, without the pilot's pair
+  upper-gathered : gathered 32 (g * 63 + 3) (drop (g * 64 + 0 * 32) f) r % 2 ^ 62 ≡ number 62 bitsOf
   unfolding gathered
   upper-gathered =
-      ap (λ (v : ℕ). v % 2 ^ 62) (gathered-append (g % 8 * 63 + 3) (drop (g * 64) f) r 1 31)
-      ∙ mul-add-mod-self-right (gathered 1 (g % 8 * 63 + 3) (drop (g * 64) f) r) (2 ^ 62) (gathered 31 (g % 8 * 63 + 3 + 1) (drop 1 (drop (g * 64) f)) r)
-      ∙ mod-eq-of-lt (gathered-lt (g % 8 * 63 + 3 + 1) (drop 1 (drop (g * 64) f)) r 31)
+      ap (λ (v : ℕ). v % 2 ^ 62) (value-append 4 1 31 _)
+      ∙ mul-add-mod-self-right (gathered 1 (g * 63 + 3) (drop (g * 64 + 0 * 32) f) r) (2 ^ 62) (value 4 31 (λ i. pair (1 + i)))
+      ∙ mod-eq-of-lt (value-lt 4 31 (λ i. pair (1 + i)) (λ i _. pair-lt (g * 63 + 3 + (1 + i)) r (getD (drop (g * 64 + 0 * 32) f) (1 + i) 0)))
       ∙ value-cong 4 31 _ _ at ∙ pairs-number bitsOf 31
     where
-      at : (i : ℕ) → i < 31 → dibitOf (g % 8 * 63 + 3 + 1 + i) r (getD (drop 1 (drop (g * 64) f)) i 0) ≡ bitsOf (2 * i) * 2 + bitsOf (2 * i + 1)
+      pair : ℕ → ℕ
+      pair x = dibitOf (g * 63 + 3 + x) r (getD (drop (g * 64 + 0 * 32) f) x 0)
+
+      at : (i : ℕ) → i < 31 → pair (1 + i) ≡ bitsOf (2 * i) * 2 + bitsOf (2 * i + 1)
       at i c =
-          let x = getD f (g * 64 + 1 + i) 0 in
-          let e : (g % 8 * 63 + 3 + 1 + i) % 4 ≡ (g % 8 * 63 + i) % 4 = omega arith in
-          ap (dibitOf (g % 8 * 63 + 3 + 1 + i) r)
-          (getD-drop 1 (drop (g * 64) f) i 0 ∙ getD-drop (g * 64) f (1 + i) 0 ∙ ap (λ (k : ℕ). getD f k 0) (sym (add-assoc (g * 64) 1 i)))
-          ∙ sym (pair-mod (g % 8 * 63 + 3 + 1 + i) r x) ∙ ap (λ (l : ℕ). dibitOf l r x) e ∙ pair-mod (g % 8 * 63 + i) r x
-          ∙ placed-pair i (omega arith)
+          let a : 64 * 0 + 2 * (1 + i) - 2 ≡ 2 * i = omega arith in
+          let b : 64 * 0 + 2 * (1 + i) - 1 ≡ 2 * i + 1 = omega arith in
+          half-pair 0 (1 + i) (omega arith) (omega arith) (omega arith) ∙ λ k. bitsOf (a k) * 2 + bitsOf (b k)
 
   -- the other 32
-  lower-gathered : gathered 32 (g % 8 * 63 + 31) (drop (g * 64 + 32) f) r ≡ number 64 (λ q. bitsOf (62 + q))
+  lower-gathered : gathered 32 (g * 63 + 3) (drop (g * 64 + 1 * 32) f) r ≡ number 64 (λ q. bitsOf (62 + q))
   unfolding gathered
   lower-gathered = value-cong 4 32 _ _ at ∙ pairs-number (λ q. bitsOf (62 + q)) 32
     where
-      at : (i : ℕ) → i < 32 → dibitOf (g % 8 * 63 + 31 + i) r (getD (drop (g * 64 + 32) f) i 0) ≡ bitsOf (62 + 2 * i) * 2 + bitsOf (62 + (2 * i + 1))
+      at : (i : ℕ) → i < 32 → dibitOf (g * 63 + 3 + i) r (getD (drop (g * 64 + 1 * 32) f) i 0) ≡ bitsOf (62 + 2 * i) * 2 + bitsOf (62 + (2 * i + 1))
       at i c =
-          let e : g % 8 * 63 + 31 + i ≡ g % 8 * 63 + (31 + i) = omega arith in
-          let d : g * 64 + 32 + i ≡ g * 64 + 1 + (31 + i) = omega arith in
-          let u : 2 * (31 + i) ≡ 62 + 2 * i = omega arith in
-          let v : 2 * (31 + i) + 1 ≡ 62 + (2 * i + 1) = omega arith in
-          ap₂ (λ (l x : ℕ). dibitOf l r x) e (getD-drop (g * 64 + 32) f i 0 ∙ ap (λ (k : ℕ). getD f k 0) d)
-          ∙ placed-pair (31 + i) (omega arith) ∙ λ k. bitsOf (u k) * 2 + bitsOf (v k)
+          let a : 64 * 1 + 2 * i - 2 ≡ 62 + 2 * i = omega arith in
+          let b : 64 * 1 + 2 * i - 1 ≡ 62 + (2 * i + 1) = omega arith in
+          half-pair 1 i (omega arith) c (omega arith) ∙ λ k. bitsOf (a k) * 2 + bitsOf (b k)
 
   -- word i, by its upper and its lower number
-  pub placed-upper : (i : ℕ) → i ≡ 4 * g + r → gathered 32 (g % 8 * 63 + 3) (drop (g * 64) f) r % 2 ^ 62 ≡ placedWord f i / 2 ^ 64
+  pub placed-upper : (i : ℕ) → i ≡ 4 * g + r → gathered 32 (g * 63 + 3) (drop (g * 64 + 0 * 32) f) r % 2 ^ 62 ≡ placedWord f i / 2 ^ 64
   unfolding bitsOf
   placed-upper i e =
       upper-gathered ∙ sym (value-top 2 62 64 bitsOf (λ q _. bits-lt q))
       ∙ ap (λ (k : ℕ). placedWord f k / 2 ^ 64) (sym e)
 
-  pub placed-lower : (i : ℕ) → i ≡ 4 * g + r → gathered 32 (g % 8 * 63 + 31) (drop (g * 64 + 32) f) r ≡ placedWord f i % 2 ^ 64
+  pub placed-lower : (i : ℕ) → i ≡ 4 * g + r → gathered 32 (g * 63 + 3) (drop (g * 64 + 1 * 32) f) r ≡ placedWord f i % 2 ^ 64
   unfolding bitsOf
   placed-lower i e =
       lower-gathered ∙ sym (value-low 2 62 64 bitsOf (λ q _. bits-lt q))
@@ -280,12 +295,12 @@ module _ (f : List ℕ) (h r : ℕ) (b : r < 4) where
   lane-of : r ≡ (h / 2 * 8 + h % 2 + 2 * r) % 8 / 2
   lane-of = omega arith
 
-  number-is : gathered 32 (h / 2 % 8 * 63 + 3 + h % 2 * 28) (drop (h * 32) f) r ≡ gatheredAt f (h / 2 * 8 + h % 2 + 2 * r)
+  number-is : gathered 32 (h / 2 * 63 + 3) (drop (h * 32) f) r ≡ gatheredAt f (h / 2 * 8 + h % 2 + 2 * r)
   unfolding gatheredAt
   number-is =
       let d : h * 32 ≡ h / 2 * 64 + h % 2 * 32 = omega arith in
-      ap (λ (n : ℕ). gathered 32 (h / 2 % 8 * 63 + 3 + h % 2 * 28) (drop n f) r) d
-      ∙ λ k. gathered 32 (group-of k % 8 * 63 + 3 + part-of k * 28) (drop (group-of k * 64 + part-of k * 32) f) (lane-of k)
+      ap (λ (n : ℕ). gathered 32 (h / 2 * 63 + 3) (drop n f) r) d
+      ∙ λ k. gathered 32 (group-of k * 63 + 3) (drop (group-of k * 64 + part-of k * 32) f) (lane-of k)
 
   order-is : order (h / 2 * 8 + h % 2 + 2 * r) ≡ 4 * h + r
   unfolding order
@@ -310,7 +325,7 @@ module _ {f : List ℕ} where
 
   -- a step stores four
   pub gathering-step : {s s′ : List ℕ} {h : ℕ} {q : Quad} → Gathering f (4 * h) s → h < 192
-      → q ≡ quadOf 32 (h / 2 % 8 * 63 + 3 + h % 2 * 28) (drop (h * 32) f) → s′ ≡ quadPut q (h / 2 * 8 + h % 2) s → Gathering f (4 * (h + 1)) s′
+      → q ≡ quadOf 32 (h / 2 * 63 + 3) (drop (h * 32) f) → s′ ≡ quadPut q (h / 2 * 8 + h % 2) s → Gathering f (4 * (h + 1)) s′
   unfolding quadOf quadPut
   gathering-step {s} {s′} {h} {q} G b e p =
       let o = h / 2 * 8 + h % 2 in
@@ -322,7 +337,8 @@ module _ {f : List ℕ} where
       (put (o + 6) (q .d)
       (put (o + 4) (q .c)
       (put (o + 2) (q .b)
-      (put o (q .a) G (omega arith) (ap order (sym z) ∙ order-is f h 0 (omega arith) ∙ y) (ap (λ (v : Quad). v .a) e ∙ number-is f h 0 (omega arith) ∙ ap (gatheredAt f) z))
+      (put o (q .a) G (omega arith) (ap order (sym z) ∙ order-is f h 0 (omega arith) ∙ y)
+      (ap (λ (v : Quad). v .a) e ∙ number-is f h 0 (omega arith) ∙ ap (gatheredAt f) z))
       (omega arith) (order-is f h 1 (omega arith)) (ap (λ (v : Quad). v .b) e ∙ number-is f h 1 (omega arith)))
       (omega arith) (omega (arith, order-is f h 2 (omega arith))) (ap (λ (v : Quad). v .c) e ∙ number-is f h 2 (omega arith)))
       (omega arith) (omega (arith, order-is f h 3 (omega arith))) (ap (λ (v : Quad). v .d) e ∙ number-is f h 3 (omega arith))))
@@ -337,22 +353,17 @@ placed-word f i h =
     let g = i / 4 in
     let r = i % 4 in
     let e : i ≡ 4 * g + r = omega arith in
-    let a : 2 * i / 8 ≡ g = omega arith in
-    let z : 2 * i % 2 ≡ 0 = omega arith in
-    let l : g % 8 * 63 + 3 + 0 * 28 ≡ g % 8 * 63 + 3 = omega arith in
-    let d : 2 * i / 8 * 64 + 2 * i % 2 * 32 ≡ g * 64 = omega arith in
-    let u : 2 * i % 8 / 2 ≡ r = omega arith in
-    let a′ : (2 * i + 1) / 8 ≡ g = omega arith in
-    let z′ : (2 * i + 1) % 2 ≡ 1 = omega arith in
-    let l′ : g % 8 * 63 + 3 + 1 * 28 ≡ g % 8 * 63 + 31 = omega arith in
-    let d′ : (2 * i + 1) / 8 * 64 + (2 * i + 1) % 2 * 32 ≡ g * 64 + 32 = omega arith in
-    let u′ : (2 * i + 1) % 8 / 2 ≡ r = omega arith in
     ap₂ (λ (x y : ℕ). x * 2 ^ 64 + y)
-    (ap (λ (v : ℕ). v % 2 ^ 62) (getD-tabulate 768 (gatheredAt f) (2 * i) 0 (omega arith) ∙ λ k. gathered 32 (((λ n. a n % 8 * 63 + 3 + z n * 28) ∙ l) k) (drop (d k) f) (u k))
-    ∙ placed-upper f g r (omega arith) (omega arith) i e)
-    (getD-tabulate 768 (gatheredAt f) (2 * i + 1) 0 (omega arith) ∙ (λ k. gathered 32 (((λ n. a′ n % 8 * 63 + 3 + z′ n * 28) ∙ l′) k) (drop (d′ k) f) (u′ k))
-    ∙ placed-lower f g r (omega arith) (omega arith) i e)
+    (ap (λ (v : ℕ). v % 2 ^ 62) (number-at (2 * i) 0 (omega arith) (omega arith)) ∙ placed-upper f g r (omega arith) (omega arith) i e)
+    (number-at (2 * i + 1) 1 (omega arith) (omega arith) ∙ placed-lower f g r (omega arith) (omega arith) i e)
     ∙ div-add-mod' (placedWord f i) (2 ^ 64)
+  where
+    number-at : (j u : ℕ) → j ≡ 2 * i + u → u < 2 → getD (tabulate 768 (gatheredAt f)) j 0 ≡ gathered 32 (i / 4 * 63 + 3) (drop (i / 4 * 64 + u * 32) f) (i % 4)
+    number-at j u e b =
+        let a : j / 8 ≡ i / 4 = omega arith in
+        let z : j % 2 ≡ u = omega arith in
+        let r : j % 8 / 2 ≡ i % 4 = omega arith in
+        getD-tabulate 768 (gatheredAt f) j 0 (omega arith) ∙ λ k. gathered 32 (a k * 63 + 3) (drop (a k * 64 + z k * 32) f) (r k)
 
 -- ---- the words with their bits back from their places
 

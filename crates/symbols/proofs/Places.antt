@@ -3,12 +3,12 @@
 -- Assumes nothing.
 use mathlib.Core.Path.{_≡_, sym, ap, ap₂, _∙_}
 use mathlib.Core.Bool.{Bool, true, cond}
-use Prim.Native.Nat.{ℕ, _+_, _*_, _/_, _%_, _<_, _≤_}
+use Prim.Native.Nat.{ℕ, _+_, _*_, _/_, _%_, _<_}
 use native.Mathlib.Nat.{le-antisymm}
-use native.Mathlib.Decide.{decLt, ℕ-discrete}
+use native.Mathlib.Decide.{ℕ-discrete}
 use native.Mathlib.Omega.{arith}
 use lib.Dec.{T, eqb, eqb→eq}
-use borrow.Author.Tests.{lt-ltb, le-ltb, eq-eqb, ne-eqb, eqb-true}
+use borrow.Author.Tests.{eq-eqb, ne-eqb, eqb-true}
 use Rattle.bits.specs.definitions.Bits.{count}
 use Rattle.bits.proofs.Table.{each, range-rule}
 use Rattle.bits.proofs.Count.{count-inject}
@@ -123,4 +123,6 @@ carrier-two i j h =
     p = i % 32
 
     found : (r : ℕ) → eqb (r / 2) j ≡ true → carrier i (unplace p r) ≡ 63 * (i / 4) + j
-    found r t = carrier-is i (unplace p r) ∙ ap₂ (λ (a b : ℕ). 63 * (i / 4) + a) (ap (λ (x : ℕ). x / 2) (place-unplace p r) ∙ eqb-true (r / 2) j t) (place-unplace p r)
+    found r t =
+        carrier-is i (unplace p r)
+        ∙ ap₂ (λ (a b : ℕ). 63 * (i / 4) + a) (ap (λ (x : ℕ). x / 2) (place-unplace p r) ∙ eqb-true (r / 2) j t) (place-unplace p r)

@@ -10,7 +10,7 @@ use native.Mathlib.Omega.{arith}
 use lib.Arith.{digits-lt, digits-div, digits-mod}
 use lib.Dec.{eqb, ltb}
 use lib.ListN.{length, getD}
-use borrow.Author.Tests.{lt-ltb, eq-eqb, ne-eqb}
+use borrow.Author.Tests.{eq-eqb, ne-eqb}
 use Rattle.bits.specs.definitions.Bits.{bitOf, bitAt, AllBytes}
 use Rattle.bits.specs.definitions.Words.{wordOf, wordAt, halfOf, rowOf}
 use Rattle.bits.proofs.Tabulate.{length-tabulate, getD-tabulate, is-tabulate}
@@ -22,6 +22,7 @@ use Rattle.shuffle.specs.definitions.Shuffle.{place, unplace}
 use Rattle.symbols.specs.definitions.Mapping.{laneOf, upper, lower, payloadAt, symbolOf, bitIn}
 use Rattle.pilots.specs.definitions.Table5.{pilots}
 use Rattle.pilots.specs.definitions.Pilots.{met, wrongPilots, lockLimit, locks}
+use Rattle.pilots.proofs.Lock.{met-there}
 use Rattle.symbols.specs.definitions.Frame.{carriedBit, payload, symbolAt, frameOf, placedBit, arrived, wordsOf}
 use Rattle.shuffle.proofs.Places.{unplace-place, place-unplace, place-lt, unplace-lt}
 use Rattle.symbols.proofs.Places.{symbol-lt, bitIn-lt, lane-back, place-back, lane-lt, symbol-back, bit-back}
@@ -60,15 +61,14 @@ frame-length : (s : List ℕ) → length (frameOf s) ≡ 6144
 unfolding frameOf
 frame-length s = length-tabulate 6144 (symbolAt s)
 
-pilot-there : (f : List ℕ) (i : ℕ) → 64 * i < length f → getD f (64 * i) 0 ≡ getD pilots i 0 → met f 0 i ≡ true
-unfolding met
-pilot-there f i h e = rw (zero-add (64 * i), lt-ltb (64 * i) (length f) h, eq-eqb (getD f (64 * i) 0) (getD pilots i 0) e)
-
 -- a frame with the right pilots locks
 pub pilots-lock : (f : List ℕ) → length f ≡ 6144 → ((k : ℕ) → k < 96 → getD f (64 * k) 0 ≡ getD pilots k 0) → locks f 0 ≡ true
 unfolding locks wrongPilots
 pilots-lock f long there =
-    ap (λ (n : ℕ). ltb n lockLimit) (count-none (λ i. not (met f 0 i)) 96 (λ i h. ap not (pilot-there f i (rw long (omega arith)) (there i h))))
+    ap (λ (n : ℕ). ltb n lockLimit) (count-none (λ i. not (met f 0 i)) 96 (λ i h. ap not (pilot-met i h)))
+  where
+    pilot-met : (i : ℕ) → i < 96 → met f 0 i ≡ true
+    pilot-met i h = met-there f 0 i (rw long (omega arith)) (ap (λ (n : ℕ). getD f n 0) (zero-add (64 * i)) ∙ there i h)
 
 pub frame-locks : (s : List ℕ) → locks (frameOf s) 0 ≡ true
 frame-locks s = pilots-lock (frameOf s) (frame-length s) (frame-pilot s)
@@ -141,12 +141,14 @@ words-frame s R = sym (is-tabulate 0 s 768 (halfOf (arrived (frameOf s))) (R .lo
     at : (j : ℕ) → j < 768 → Dec (j % 2 ≡ 0) → getD s j 0 ≡ cond (eqb (j % 2) 0) (arrived (frameOf s) (j / 2) / 2 ^ 64) (arrived (frameOf s) (j / 2) % 2 ^ 64)
     at j h (yes e) =
         let d : 2 * (j / 2) ≡ j = omega arith in
+        let l = R .lower-lt (j / 2) (omega arith) in
         rw (eq-eqb (j % 2) 0 e)
-        (sym (ap (λ (v : ℕ). v / 2 ^ 64) (arrived-is (j / 2) (omega arith)) ∙ digits-div (getD s (2 * (j / 2)) 0) (R .lower-lt (j / 2) (omega arith)) ∙ ap (λ (k : ℕ). getD s k 0) d))
+        (sym (ap (λ (v : ℕ). v / 2 ^ 64) (arrived-is (j / 2) (omega arith)) ∙ digits-div (getD s (2 * (j / 2)) 0) l ∙ ap (λ (k : ℕ). getD s k 0) d))
     at j h (no e) =
         let d : 2 * (j / 2) + 1 ≡ j = omega arith in
+        let l = R .lower-lt (j / 2) (omega arith) in
         rw (ne-eqb (j % 2) 0 e)
-        (sym (ap (λ (v : ℕ). v % 2 ^ 64) (arrived-is (j / 2) (omega arith)) ∙ digits-mod (getD s (2 * (j / 2)) 0) (R .lower-lt (j / 2) (omega arith)) ∙ ap (λ (k : ℕ). getD s k 0) d))
+        (sym (ap (λ (v : ℕ). v % 2 ^ 64) (arrived-is (j / 2) (omega arith)) ∙ digits-mod (getD s (2 * (j / 2)) 0) l ∙ ap (λ (k : ℕ). getD s k 0) d))
 
 -- ---- and the other way: a frame with the right pilots
 
@@ -160,7 +162,9 @@ unfolding carriedBit wordsOf upper lower
 carried-words f k l i hk hl hi = go (ℕ-discrete (i % 2) 0)
   where
     placed : (r : ℕ) → r / 2 ≡ l % 63 → (r + l) % 2 ≡ i % 2 → placedBit f k (laneOf l (i / 2)) r ≡ bitAt f (8 * payloadAt (504 * k + l) + i)
-    placed r half e = placed-is f k (laneOf l (i / 2)) r ∙ ap₂ (λ (a b : ℕ). bitAt f (8 * payloadAt (504 * k + a) + b)) (symbol-back l i hl hi r half) (bit-back l i hl hi r half e)
+    placed r half e =
+        placed-is f k (laneOf l (i / 2)) r
+        ∙ ap₂ (λ (a b : ℕ). bitAt f (8 * payloadAt (504 * k + a) + b)) (symbol-back l i hl hi r half) (bit-back l i hl hi r half e)
 
     at : (r : ℕ) → r < 126 → r / 2 ≡ l % 63 → (r + l) % 2 ≡ i % 2
         → bitOf 126 (wordAt (rowOf 384 (arrived f)) (32 * k + laneOf l (i / 2))) (unplace (laneOf l (i / 2)) r) ≡ bitAt f (8 * payloadAt (504 * k + l) + i)
@@ -175,7 +179,8 @@ carried-words f k l i hk hl hi = go (ℕ-discrete (i % 2) 0)
         ∙ ap (placedBit f k (laneOf l (i / 2))) (place-unplace (laneOf l (i / 2)) r) ∙ placed r half e
 
     go : Dec (i % 2 ≡ 0)
-        → bitOf 126 (wordAt (rowOf 384 (arrived f)) (32 * k + laneOf l (i / 2))) (unplace (laneOf l (i / 2)) (cond (eqb (i % 2) 0) (2 * (l % 63) + l % 2) (2 * (l % 63) + (l + 1) % 2)))
+        → bitOf 126 (wordAt (rowOf 384 (arrived f)) (32 * k + laneOf l (i / 2)))
+        (unplace (laneOf l (i / 2)) (cond (eqb (i % 2) 0) (2 * (l % 63) + l % 2) (2 * (l % 63) + (l + 1) % 2)))
         ≡ bitAt f (8 * payloadAt (504 * k + l) + i)
     go (yes e) = rw (eq-eqb (i % 2) 0 e) (at (2 * (l % 63) + l % 2) (omega arith) (omega arith) (omega arith))
     go (no e) = rw (ne-eqb (i % 2) 0 e) (at (2 * (l % 63) + (l + 1) % 2) (omega arith) (omega arith) (omega arith))

@@ -2,26 +2,28 @@
 -- Assumes nothing.
 use mathlib.Core.Path.{_≡_, refl, sym, ap, ap₂, _∙_, subst}
 use mathlib.Core.Bool.{cond}
-use mathlib.Core.List.{List}
+use mathlib.Core.List.{List, _++_}
 use Prim.Native.Nat.{ℕ, zero, suc, _+_, _-_, _*_, _/_, _%_, _^_, _<_, _≤_}
 use native.Mathlib.Nat.{pow-suc, div-div-eq-div-mul, add-mul-mod-self-right}
-use native.Mathlib.Decide.{ℕ-discrete, decLt}
+use native.Mathlib.Decide.{ℕ-discrete}
 use native.Mathlib.Omega.{arith}
-use lib.Dec.{eqb, ltb}
-use lib.ListN.{getD, set}
+use lib.Dec.{eqb}
+use lib.ListN.{length, getD, set, take, drop, length-set, length-take, length-drop}
+use lib.Seq.{getD-set-same, getD-set-other}
 use lib.Pow.{pow-add}
-use borrow.Author.Tests.{eq-eqb, ne-eqb, lt-ltb, le-ltb}
+use borrow.Author.Tests.{eq-eqb, ne-eqb}
 use Rattle.bits.specs.definitions.Bits.{tabulate, value, number, bitOf}
 use Rattle.bits.specs.definitions.Words.{wordAt, rowOf, halfOf}
-use Rattle.bits.proofs.Tabulate.{getD-tabulate, tabulate-cong}
-use Rattle.bits.proofs.Filling.{Filling, filling-step, filling-at}
+use Rattle.bits.proofs.Tabulate.{getD-tabulate, tabulate-cong, is-tabulate}
+use Rattle.bits.proofs.Filling.{Filling, filling-step, filling-at, filling-put, filling-done}
 use Rattle.bits.proofs.Value.{value-cong, value-lt, value-top, value-low, bit-lt, bit-number, number-bits}
 use Rattle.shuffle.specs.definitions.Shuffle.{unplace, shuffled}
 use Rattle.symbols.specs.definitions.Mapping.{laneOf, upper, lower}
 use Rattle.pilots.specs.definitions.Table5.{pilots}
 use Rattle.symbols.specs.definitions.Frame.{carriedBit, payload, symbolAt, frameOf}
 use Rattle.mapper_tables.specs.private.Tables.{laneIn, tributaryIn, partOf, partsOf, IsParts}
-use Rattle.symbols.specs.private.Numbers.{numberOf, quadAt, symbolFrom, fourSymbols, rowBit, groupSymbol, mappedAt}
+use Rattle.symbols.specs.declared.Quad.{Quad}
+use Rattle.symbols.specs.private.Numbers.{numberOf, quadAt, symbolFrom, fourSymbols, behindPilot, groupSymbol, mappedAt}
 use Rattle.mapper_tables.proofs.Entries.{mapped, parts-whole}
 
 -- ---- a symbol's number by its remainder, and the table
@@ -67,6 +69,11 @@ parts-at t l r b C h c =
     ∙ λ k. part-mod l r (b / 64) k * 2 ^ 24 + part-at l 1 r (b / 16 % 4) k * 2 ^ 16 + part-at l 2 r (b / 4 % 4) k * 2 ^ 8 + part-at l 3 r (b % 4) k
 
 -- what four lanes put into a symbol's byte
+parts-of : (l y : ℕ) → y < 256 → partOf l 0 (y / 64) + partOf l 1 (y / 16 % 4) + partOf l 2 (y / 4 % 4) + partOf l 3 (y % 4) ≡ mapped l y
+parts-of l y h =
+    sym (λ k. part-mod l 0 (y / 64) k + part-mod l 1 (y / 16 % 4) k + part-mod l 2 (y / 4 % 4) k + part-mod l 3 (y % 4) k)
+    ∙ parts-whole (l % 4) y (omega arith) h ∙ mapped-mod l y
+
 parts-sum : (l a b c d : ℕ) → a < 4 → b < 4 → c < 4 → d < 4 → partOf l 0 a + partOf l 1 b + partOf l 2 c + partOf l 3 d ≡ mapped l (a * 64 + b * 16 + c * 4 + d)
 parts-sum l a b c d ha hb hc hd =
     let y = a * 64 + b * 16 + c * 4 + d in
@@ -74,12 +81,11 @@ parts-sum l a b c d ha hb hc hd =
     let q : b ≡ y / 16 % 4 = omega arith in
     let r : c ≡ y / 4 % 4 = omega arith in
     let s : d ≡ y % 4 = omega arith in
-    (λ k. sym (part-mod l 0 (p k)) k + sym (part-mod l 1 (q k)) k + sym (part-mod l 2 (r k)) k + sym (part-mod l 3 (s k)) k)
-    ∙ parts-whole (l % 4) y (omega arith) (omega arith) ∙ mapped-mod l y
+    (λ k. partOf l 0 (p k) + partOf l 1 (q k) + partOf l 2 (r k) + partOf l 3 (s k)) ∙ parts-of l y (omega arith)
 
 -- ---- a symbol from four numbers
 
--- a pair of bits by a shift
+-- a dibit by a shift
 pair-bits : (n a i : ℕ) → i < n → a / 2 ^ (2 * (n - (i + 1))) % 4 ≡ bitOf (2 * n) a (2 * i + 0) * 2 + bitOf (2 * n) a (2 * i + 1)
 unfolding bitOf
 pair-bits n a i h =
@@ -88,7 +94,7 @@ pair-bits n a i h =
     let d : 2 * n - 1 - (2 * i + 1) ≡ k = omega arith in
     rw (e, d, pow-suc 2 k, ← div-div-eq-div-mul) (omega arith)
 
--- four pairs of bits in the lanes' order
+-- four dibits in the lanes' order
 module _ (n i : ℕ) (w : ℕ → ℕ) where
   abbrev pairBit : ℕ → ℕ
   pairBit k = bitOf (2 * n) (w (k / 2)) (2 * i + k % 2)
@@ -137,7 +143,7 @@ digits m l w v e =
 shift-more : (a k j : ℕ) → a / 2 ^ (k + j) ≡ a / 2 ^ k / 2 ^ j
 shift-more a k j = rw (pow-add 2 k j, ← div-div-eq-div-mul)
 
--- the four pairs above the m low ones, as those of a byte
+-- the four dibits above the m low ones, as those of a byte
 module _ (a m : ℕ) where
   pair-0 : a / 2 ^ (2 * (m + 4 - (0 + 1))) % 4 ≡ a / 2 ^ (2 * m) % 256 / 64
   pair-0 = let e : 2 * (m + 4 - (0 + 1)) ≡ 2 * m + 6 = omega arith in rw (e, shift-more a (2 * m) 6) (omega arith)
@@ -162,17 +168,23 @@ module _ (m l : ℕ) (w : ℕ → ℕ) where
       parts-sum (l + x) (d 0) (d 1) (d 2) (d 3) (small 0) (small 1) (small 2) (small 3)
       ∙ symbol-law (m + 4) x w l _ (omega arith) (λ k. sym (e 0) k * 64 + sym (e 1) k * 16 + sym (e 2) k * 4 + sym (e 3) k)
 
-  pub four-symbols-law : partsOf l 0 (byteOf 0) + partsOf l 1 (byteOf 1) + partsOf l 2 (byteOf 2) + partsOf l 3 (byteOf 3) ≡ fourSymbols m l w
+  four-sum : partsOf l 0 (byteOf 0) + partsOf l 1 (byteOf 1) + partsOf l 2 (byteOf 2) + partsOf l 3 (byteOf 3) ≡ fourSymbols m l w
   unfolding partsOf fourSymbols
-  four-symbols-law =
+  four-sum =
       let z : l + 0 ≡ l = omega arith in
       let c0 = column 0 (λ r. byteOf r / 64) (omega arith) (λ r. omega arith) (λ r. pair-0 (w r) m) in
-      let s0 : partOf l 0 (byteOf 0 / 64) + partOf l 1 (byteOf 1 / 64) + partOf l 2 (byteOf 2 / 64) + partOf l 3 (byteOf 3 / 64) ≡ symbolFrom (m + 4) l w 0 =
-      (λ k. partOf (sym z k) 0 (byteOf 0 / 64) + partOf (sym z k) 1 (byteOf 1 / 64) + partOf (sym z k) 2 (byteOf 2 / 64) + partOf (sym z k) 3 (byteOf 3 / 64)) ∙ c0 in
+      let s0 = (λ k. first (sym z k)) ∙ c0 in
       let s1 = column 1 (λ r. byteOf r / 16 % 4) (omega arith) (λ r. omega arith) (λ r. pair-1 (w r) m) in
       let s2 = column 2 (λ r. byteOf r / 4 % 4) (omega arith) (λ r. omega arith) (λ r. pair-2 (w r) m) in
       let s3 = column 3 (λ r. byteOf r % 4) (omega arith) (λ r. omega arith) (λ r. pair-3 (w r) m) in
       omega (arith, s0, s1, s2, s3)
+    where
+      first : ℕ → ℕ
+      first n = partOf n 0 (byteOf 0 / 64) + partOf n 1 (byteOf 1 / 64) + partOf n 2 (byteOf 2 / 64) + partOf n 3 (byteOf 3 / 64)
+
+  pub four-symbols-law : {a b c d : ℕ} → a ≡ partsOf l 0 (byteOf 0) → b ≡ partsOf l 1 (byteOf 1) → c ≡ partsOf l 2 (byteOf 2) → d ≡ partsOf l 3 (byteOf 3)
+      → a + b + c + d ≡ fourSymbols m l w
+  four-symbols-law p q r s = (λ k. p k + q k + r k + s k) ∙ four-sum
 
 -- a symbol further on
 symbol-on : (n l i : ℕ) (w : ℕ → ℕ) (x : ℕ) → x < n → symbolFrom n (l + i) w x ≡ symbolFrom (n + i) l w (i + x)
@@ -211,12 +223,60 @@ fill-step n l w {out₀} {out} i v h e F =
         let m : n - (i + 4) + 4 + i ≡ n = omega arith in
         symbol-on (n - (i + 4) + 4) l i w x (omega arith) ∙ ap (λ (k : ℕ). symbolFrom k l w (i + x)) m
 
--- ---- 64 symbols of a frame
+-- ---- a group's halves
 
--- a bit of 62 as one of 64
-further : (j u : ℕ) → j < 31 → u < 2 → (v : ℕ) → bitOf 64 v (2 * (1 + j) + u) ≡ bitOf 62 v (2 * j + u)
-unfolding bitOf
-further j u h l v = let d : 63 - (2 * (1 + j) + u) ≡ 61 - (2 * j + u) = omega arith in ap (λ (y : ℕ). v / 2 ^ y % 2) d
+-- half u of a group is lent, and filled
+pub group-half : (s : List ℕ) (g u o : ℕ) {out₀ out part : List ℕ} {q : Quad} → u < 2 → o ≡ g * 8 + u → Filling (behindPilot s g) 64 out₀ out (u * 32)
+    → q ≡ quadAt s o
+    → let n = length (take (u * 32 + 32 - u * 32) (drop (u * 32) out)) in part ≡ tabulate n (symbolFrom n (g * 63 + 3) (numberOf q))
+    → Filling (behindPilot s g) 64 out₀ (take (u * 32) out ++ (part ++ drop (u * 32 + 32 - u * 32) (drop (u * 32) out))) (u * 32 + 32)
+unfolding behindPilot
+group-half s g u o {out₀} {out} {part} {q} b n F e p =
+    filling-put (behindPilot s g) (u * 32 + 32) part (λ m. symbolFrom m (g * 63 + 3) (numberOf q)) F (omega arith) (omega arith) p at
+  where
+    at : (k : ℕ) → k < u * 32 + 32 - u * 32 → symbolFrom (u * 32 + 32 - u * 32) (g * 63 + 3) (numberOf q) k ≡ behindPilot s g (u * 32 + k)
+    at k h =
+        let m : u * 32 + 32 - u * 32 ≡ 32 = omega arith in
+        let d : g * 8 + u ≡ g * 8 + (u * 32 + k) / 32 = omega arith in
+        let x : k ≡ (u * 32 + k) % 32 = omega arith in
+        let w = e ∙ ap (quadAt s) (n ∙ d) in
+        λ i. symbolFrom (m i) (g * 63 + 3) (numberOf (w i)) (x i)
+
+-- and the pilot is put in
+pub group-done : (s : List ℕ) (g x : ℕ) {out₀ out : List ℕ} → Filling (behindPilot s g) 64 out₀ out 64 → set out 0 x ≡ tabulate 64 (groupSymbol x s g)
+unfolding groupSymbol
+group-done s g x {out₀} {out} F = is-tabulate 0 (set out 0 x) 64 _ (length-set out 0 x ∙ F .long) (λ i h. at i h (ℕ-discrete i 0))
+  where
+    at : (i : ℕ) → i < 64 → Dec (i ≡ 0) → getD (set out 0 x) i 0 ≡ cond (eqb i 0) x (behindPilot s g i)
+    at i h (yes e) = rw (eq-eqb i 0 e) (ap (λ (k : ℕ). getD (set out 0 x) k 0) e ∙ getD-set-same out 0 x 0 (omega (arith, F .long)))
+    at i h (no e) =
+        rw (ne-eqb i 0 e)
+        (getD-set-other out 0 i x 0 e ∙ ap (λ (l : List ℕ). getD l i 0) (filling-done (behindPilot s g) F (omega arith))
+        ∙ getD-tabulate 64 (behindPilot s g) i 0 h)
+
+-- ---- a frame's groups
+
+-- group g is lent, and filled
+pub group-long : (f : List ℕ) (g : ℕ) → length f ≡ 6144 → g < 96 → length (take (g * 64 + 64 - g * 64) (drop (g * 64) f)) ≡ 64
+group-long f g e b = simp (length-take, length-drop) (omega (arith, e))
+
+pub group-step : (s : List ℕ) (g x : ℕ) {out₀ out part : List ℕ} → g < 96 → x ≡ getD pilots g 0 → part ≡ tabulate 64 (groupSymbol x s g)
+    → Filling (mappedAt s) 6144 out₀ out (g * 64)
+    → Filling (mappedAt s) 6144 out₀ (take (g * 64) out ++ (part ++ drop (g * 64 + 64 - g * 64) (drop (g * 64) out))) ((g + 1) * 64)
+unfolding mappedAt
+group-step s g x {out₀} {out} {part} b e p F =
+    let z : g * 64 + 64 ≡ (g + 1) * 64 = omega arith in
+    subst (Filling (mappedAt s) 6144 out₀ _) z
+    (filling-put (mappedAt s) (g * 64 + 64) part (λ _. groupSymbol x s g) F (omega arith) (omega arith)
+    (p ∙ ap (λ (n : ℕ). tabulate n (groupSymbol x s g)) (sym (group-long out g (F .long) b))) at)
+  where
+    at : (k : ℕ) → k < g * 64 + 64 - g * 64 → groupSymbol x s g k ≡ mappedAt s (g * 64 + k)
+    at k h =
+        let d : g ≡ (g * 64 + k) / 64 = omega arith in
+        let m : k ≡ (g * 64 + k) % 64 = omega arith in
+        ap (λ (y : ℕ). groupSymbol y s g k) e ∙ λ i. groupSymbol (getD pilots (d i) 0) s (d i) (m i)
+
+-- ---- the bits of an upper and of a lower number
 
 quad-number : (s : List ℕ) (o r : ℕ) → r < 4 → numberOf (quadAt s o) r ≡ getD s (o + 2 * r) 0
 unfolding quadAt
@@ -226,122 +286,46 @@ quad-number s o (suc (suc zero)) h = refl
 quad-number s o (suc (suc (suc zero))) h = refl
 quad-number s o (suc (suc (suc (suc r)))) h = absurd (omega arith)
 
-module _ (s : List ℕ) (g : ℕ) where
-  pilot-is : getD pilots g 0 ≡ mappedAt s (g * 64)
-  unfolding mappedAt
-  pilot-is =
-      let m : g * 64 % 64 ≡ 0 = omega arith in
-      let d : g * 64 / 64 ≡ g = omega arith in
-      rw (m, d)
+-- a bit of 64 as one of 62
+above : (v b : ℕ) → 2 ≤ b → b < 64 → bitOf 64 v b ≡ bitOf 62 v (b - 2)
+unfolding bitOf
+above v b h l = let e : 63 - b ≡ 61 - (b - 2) = omega arith in ap (λ (y : ℕ). v / 2 ^ y % 2) e
 
-  at-group : (j : ℕ) → j < 63 → groupSymbol s g j ≡ mappedAt s (g * 64 + 1 + j)
-  unfolding mappedAt
-  at-group j h =
-      let n : (g * 64 + 1 + j) % 64 ≡ 0 → ⊥ = λ z. omega arith in
-      let d : g ≡ (g * 64 + 1 + j) / 64 = omega arith in
-      let e : j ≡ (g * 64 + 1 + j) % 64 - 1 = omega arith in
-      rw (ne-eqb ((g * 64 + 1 + j) % 64) 0 n) (ap₂ (groupSymbol s) d e)
-
-  -- symbol j of the 63, as the one behind it of 32 of which the first is the pilot's
-  upper-is : (j : ℕ) → j < 31 → symbolFrom 32 (g % 8 * 63 + 3) (numberOf (quadAt s (g * 8))) (1 + j) ≡ mappedAt s (g * 64 + 1 + j)
-  unfolding symbolFrom groupSymbol rowBit
-  upper-is j h =
-      value-cong 2 8 _ _ (λ i b.
-      let u : (i + (g % 8 * 63 + 3 + (1 + j))) % 2 ≡ (i + (g % 8 * 63 + j)) % 2 = omega arith in
-      (λ k. bitOf 64 (numberOf (quadAt s (g * 8)) (lane (i / 2) k)) (2 * (1 + j) + u k))
-      ∙ at (laneIn (g % 8 * 63 + j) (i / 2)) ((i + (g % 8 * 63 + j)) % 2) (lane-lt (g % 8 * 63 + j) (i / 2)) (omega arith))
-      ∙ at-group j (omega arith)
-    where
-      lane : (t : ℕ) → laneIn (g % 8 * 63 + 3 + (1 + j)) t ≡ laneIn (g % 8 * 63 + j) t
-      lane t =
-          let e : (g % 8 * 63 + 3 + (1 + j)) % 4 ≡ (g % 8 * 63 + j) % 4 = omega arith in
-          sym (lane-mod (g % 8 * 63 + 3 + (1 + j)) t) ∙ ap (λ (l : ℕ). laneIn l t) e ∙ lane-mod (g % 8 * 63 + j) t
-
-      at : (r u : ℕ) → r < 4 → u < 2
-          → bitOf 64 (numberOf (quadAt s (g * 8)) r) (2 * (1 + j) + u)
-          ≡ cond (ltb (2 * j + u) 62) (bitOf 62 (getD s (2 * (4 * g + r)) 0) (2 * j + u)) (bitOf 64 (getD s (2 * (4 * g + r) + 1) 0) (2 * j + u - 62))
-      at r u hr hu =
-          let e : g * 8 + 2 * r ≡ 2 * (4 * g + r) = omega arith in
-          rw (lt-ltb (2 * j + u) 62 (omega arith))
-          (further j u h hu (numberOf (quadAt s (g * 8)) r) ∙ ap (λ (v : ℕ). bitOf 62 v (2 * j + u)) (quad-number s (g * 8) r hr ∙ ap (λ (x : ℕ). getD s x 0) e))
-
-  -- the first four symbols: the pilot, and three behind it
-  pub head-step : {out₀ out : List ℕ} (x v : ℕ) → g < 96 → x ≡ getD pilots g 0 → v ≡ fourSymbols 28 (g % 8 * 63 + 3) (numberOf (quadAt s (g * 8)))
-      → Filling (mappedAt s) 6144 out₀ out (g * 64)
-      → Filling (mappedAt s) 6144 out₀
-      (set (set (set (set out (g * 64) x) (g * 64 + 1) (v / 65536 % 256)) (g * 64 + 2) (v / 256 % 256)) (g * 64 + 3) (v % 256)) (g * 64 + 4)
-  head-step {out₀} {out} x v h p e F =
-      let D = digits 28 (g % 8 * 63 + 3) (numberOf (quadAt s (g * 8))) v e in
-      let z : g * 64 + 3 + 1 ≡ g * 64 + 4 = omega arith in
-      let f = mappedAt s in
-      subst (Filling (mappedAt s) 6144 out₀ _) z
-      (filling-at f (g * 64 + 3) (v % 256) (omega arith)
-      (filling-at f (g * 64 + 2) (v / 256 % 256) (omega arith)
-      (filling-step f (v / 65536 % 256) (filling-step f x F (omega arith) (p ∙ pilot-is))
-      (omega arith) (D .second ∙ upper-is 0 (omega arith) ∙ ap f (let y : g * 64 + 1 + 0 ≡ g * 64 + 1 = omega arith in y)))
-      (omega arith) (D .third ∙ upper-is 1 (omega arith) ∙ ap f (let y : g * 64 + 1 + 1 ≡ g * 64 + 2 = omega arith in y)))
-      (omega arith) (D .fourth ∙ upper-is 2 (omega arith) ∙ ap f (let y : g * 64 + 1 + 2 ≡ g * 64 + 3 = omega arith in y)))
-
-  -- and those behind them
-  pub rest-is : (k : ℕ) → k < 28 → symbolFrom 28 (g % 8 * 63 + 3 + 4) (numberOf (quadAt s (g * 8))) k ≡ mappedAt s (g * 64 + 4 + k)
-  rest-is k h =
-      let e : 4 + k ≡ 1 + (3 + k) = omega arith in
-      let d : g * 64 + 1 + (3 + k) ≡ g * 64 + 4 + k = omega arith in
-      symbol-on 28 (g % 8 * 63 + 3) 4 (numberOf (quadAt s (g * 8))) k h
-      ∙ ap (symbolFrom 32 (g % 8 * 63 + 3) (numberOf (quadAt s (g * 8)))) e ∙ upper-is (3 + k) (omega arith) ∙ ap (mappedAt s) d
-
-  pub lower-is : (k : ℕ) → k < 32 → symbolFrom 32 (g % 8 * 63 + 31) (numberOf (quadAt s (g * 8 + 1))) k ≡ mappedAt s (g * 64 + 32 + k)
-  unfolding symbolFrom groupSymbol rowBit
-  lower-is k h =
-      value-cong 2 8 _ _ (λ i b.
-      let e : g % 8 * 63 + 31 + k ≡ g % 8 * 63 + (31 + k) = omega arith in
-      (λ t. bitOf 64 (numberOf (quadAt s (g * 8 + 1)) (laneIn (e t) (i / 2))) (2 * k + (i + e t) % 2))
-      ∙ at (laneIn (g % 8 * 63 + (31 + k)) (i / 2)) ((i + (g % 8 * 63 + (31 + k))) % 2) (lane-lt (g % 8 * 63 + (31 + k)) (i / 2)))
-      ∙ at-group (31 + k) (omega arith) ∙ ap (mappedAt s) (let z : g * 64 + 1 + (31 + k) ≡ g * 64 + 32 + k = omega arith in z)
-    where
-      at : (r u : ℕ) → r < 4
-          → bitOf 64 (numberOf (quadAt s (g * 8 + 1)) r) (2 * k + u)
-          ≡ cond (ltb (2 * (31 + k) + u) 62) (bitOf 62 (getD s (2 * (4 * g + r)) 0) (2 * (31 + k) + u)) (bitOf 64 (getD s (2 * (4 * g + r) + 1) 0) (2 * (31 + k) + u - 62))
-      at r u hr =
-          let e : g * 8 + 1 + 2 * r ≡ 2 * (4 * g + r) + 1 = omega arith in
-          let d : 2 * k + u ≡ 2 * (31 + k) + u - 62 = omega arith in
-          rw (le-ltb (2 * (31 + k) + u) 62 (omega arith))
-          (ap₂ (bitOf 64) (quad-number s (g * 8 + 1) r hr ∙ ap (λ (x : ℕ). getD s x 0) e) d)
-
--- ---- the frame of words that were shuffled
-
--- bit r of word i of a row
-row-bit : (n : ℕ) (F : ℕ → ℕ) (i r : ℕ) → i < n → F i < 2 ^ 126 → r < 126 → rowBit (rowOf n F) i r ≡ bitOf 126 (F i) r
-unfolding rowBit halfOf
-row-bit n F i r h l b = go (decLt r 62)
+-- a bit of an upper or a lower number of a row as one of its word: the two bits above an upper number are no part of the word
+row-bit : (n : ℕ) (F : ℕ → ℕ) (i u b : ℕ) → i < n → F i < 2 ^ 126 → u < 2 → b < 64 → 2 ≤ 64 * u + b
+    → bitOf 64 (getD (rowOf n F) (2 * i + u) 0) b ≡ bitOf 126 (F i) (64 * u + b - 2)
+unfolding halfOf
+row-bit n F i u b h l hu hb behind = go u hu behind
   where
     f : ℕ → ℕ
     f = bitOf 126 (F i)
 
-    whole : number 126 f ≡ F i
-    whole = number-bits 126 (F i) l
+    whole : F i ≡ number 126 f
+    whole = sym (number-bits 126 (F i) l)
 
-    hi : getD (rowOf n F) (2 * i) 0 ≡ number 62 f
-    hi =
-        let e : 2 * i % 2 ≡ 0 = omega arith in
-        let d : 2 * i / 2 ≡ i = omega arith in
-        getD-tabulate (2 * n) (halfOf F) (2 * i) 0 (omega arith)
-        ∙ rw (e, d) (ap (λ (v : ℕ). v / 2 ^ 64) (sym whole) ∙ value-top 2 62 64 f (λ k _. bit-lt 126 (F i) k))
-
-    lo : getD (rowOf n F) (2 * i + 1) 0 ≡ number 64 (λ k. f (62 + k))
-    lo =
+    go : (u : ℕ) → u < 2 → 2 ≤ 64 * u + b → bitOf 64 (getD (rowOf n F) (2 * i + u) 0) b ≡ f (64 * u + b - 2)
+    go zero _ c =
+        let e : (2 * i + 0) % 2 ≡ 0 = omega arith in
+        let d : (2 * i + 0) / 2 ≡ i = omega arith in
+        let z : 64 * 0 + b - 2 ≡ b - 2 = omega arith in
+        ap (λ (v : ℕ). bitOf 64 v b)
+        (getD-tabulate (2 * n) (halfOf F) (2 * i + 0) 0 (omega arith)
+        ∙ rw (e, d) (ap (λ (v : ℕ). v / 2 ^ 64) whole ∙ value-top 2 62 64 f (λ k _. bit-lt 126 (F i) k)))
+        ∙ above (number 62 f) b (omega arith) hb ∙ bit-number 62 f (λ k _. bit-lt 126 (F i) k) (b - 2) (omega arith) ∙ ap f (sym z)
+    go (suc zero) _ _ =
         let e : (2 * i + 1) % 2 ≡ 1 = omega arith in
         let d : (2 * i + 1) / 2 ≡ i = omega arith in
-        getD-tabulate (2 * n) (halfOf F) (2 * i + 1) 0 (omega arith)
-        ∙ rw (e, d) (ap (λ (v : ℕ). v % 2 ^ 64) (sym whole) ∙ value-low 2 62 64 f (λ k _. bit-lt 126 (F i) k))
+        let z : 62 + b ≡ 64 * 1 + b - 2 = omega arith in
+        ap (λ (v : ℕ). bitOf 64 v b)
+        (getD-tabulate (2 * n) (halfOf F) (2 * i + 1) 0 (omega arith)
+        ∙ rw (e, d) (ap (λ (v : ℕ). v % 2 ^ 64) whole ∙ value-low 2 62 64 f (λ k _. bit-lt 126 (F i) k)))
+        ∙ bit-number 64 (λ k. f (62 + k)) (λ k _. bit-lt 126 (F i) (62 + k)) b hb ∙ ap f z
+    go (suc (suc u)) c _ = absurd (omega arith)
 
-    go : Dec (r < 62) → cond (ltb r 62) (bitOf 62 (getD (rowOf n F) (2 * i) 0) r) (bitOf 64 (getD (rowOf n F) (2 * i + 1) 0) (r - 62)) ≡ f r
-    go (yes c) = rw (lt-ltb r 62 c, hi) (bit-number 62 f (λ k _. bit-lt 126 (F i) k) r c)
-    go (no c) =
-        let e : 62 + (r - 62) ≡ r = omega arith in
-        rw (le-ltb r 62 (omega arith), lo) (bit-number 64 (λ k. f (62 + k)) (λ k _. bit-lt 126 (F i) (62 + k)) (r - 62) (omega arith) ∙ ap f e)
+-- ---- the frame of words that were shuffled
 
-module _ (s : List ℕ) (g j : ℕ) (h : g < 96) (b : j < 63) where
+-- symbol j of the 63 that carry words 4 g to 4 g + 3
+module _ (g j : ℕ) (h : g < 96) (b : j < 63) where
   -- its lane, in the frame's words and in the mapping
   lane-is : (t : ℕ) → laneOf (g % 8 * 63 + j) t ≡ (4 * g + laneIn (g % 8 * 63 + j) t) % 32
   unfolding laneOf laneIn
@@ -367,41 +351,71 @@ module _ (s : List ℕ) (g j : ℕ) (h : g < 96) (b : j < 63) where
       go (yes e) = rw (eq-eqb (i % 2) 0 e) (omega arith)
       go (no e) = rw (ne-eqb (i % 2) 0 e) (omega arith)
 
-  group-is : groupSymbol (shuffled s) g j ≡ payload s (63 * g + j)
-  unfolding groupSymbol payload carriedBit shuffled
-  group-is =
-      value-cong 2 8 _ _ at
-      ∙ (let d : g / 8 ≡ (63 * g + j) / 504 = omega arith in
-      let m : g % 8 * 63 + j ≡ (63 * g + j) % 504 = omega arith in
-      λ k. number 8 (carriedBit s (d k) (m k)))
-    where
-      l : ℕ
-      l = g % 8 * 63 + j
+-- symbol x of half u of a group, behind the pilot: its number, counted in each half from 63 g + 3 on, and that among the 504 have the same remainder
+pub counted-mod : (g u x : ℕ) → 1 ≤ 32 * u + x → (g * 63 + 3 + x) % 4 ≡ (g % 8 * 63 + (32 * u + x - 1)) % 4
+counted-mod g u x behind =
+    let e : g * 63 + 3 + x + 8 * u * 4 ≡ g % 8 * 63 + (32 * u + x - 1) + (126 * (g / 8) + 1) * 4 = omega arith in
+    sym (add-mul-mod-self-right (g * 63 + 3 + x) (8 * u) 4) ∙ ap (λ (n : ℕ). n % 4) e
+    ∙ add-mul-mod-self-right (g % 8 * 63 + (32 * u + x - 1)) (126 * (g / 8) + 1) 4
 
-      F : ℕ → ℕ
-      F i = number 126 (λ r. bitOf 126 (wordAt s i) (unplace (i % 32) r))
+counted-even : (i a b : ℕ) → a % 4 ≡ b % 4 → (i + a) % 2 ≡ (i + b) % 2
+counted-even i a b e = omega arith
 
-      at : (i : ℕ) → i < 8 → rowBit (rowOf 384 F) (4 * g + laneIn l (i / 2)) (2 * j + (i + l) % 2) ≡ carriedBit s (g / 8) l i
-      at i c =
-          let x = 4 * g + laneIn l (i / 2) in
-          let r = 2 * j + (i + l) % 2 in
-          let lt : r < 126 = omega arith in
-          row-bit 384 F x r (omega (arith, lane-lt l (i / 2))) (value-lt 2 126 _ (λ q _. bit-lt 126 (wordAt s x) _)) lt
-          ∙ bit-number 126 _ (λ q _. bit-lt 126 (wordAt s x) _) r lt
-          ∙ (λ k. bitOf 126 (wordAt s (sym (word-is (i / 2)) k)) (unplace (sym (lane-is (i / 2)) k) (sym (place-is i) k)))
+module _ (s : List ℕ) (g u x : ℕ) (h : g < 96) (hu : u < 2) (hx : x < 32) (behind : 1 ≤ 32 * u + x) where
+  -- its number as the halves count, and among the 63
+  abbrev counted : ℕ
+  counted = g * 63 + 3 + x
+
+  abbrev symbol : ℕ
+  symbol = g % 8 * 63 + (32 * u + x - 1)
+
+  counted-lane : (t : ℕ) → laneIn counted t ≡ laneIn symbol t
+  counted-lane t = sym (lane-mod counted t) ∙ ap (λ (l : ℕ). laneIn l t) (counted-mod g u x behind) ∙ lane-mod symbol t
+
+  -- word i when it was shuffled
+  abbrev placedAt : ℕ → ℕ
+  placedAt i = number 126 (λ r. bitOf 126 (wordAt s i) (unplace (i % 32) r))
+
+  carried : (i : ℕ) → i < 8
+      → bitOf 64 (numberOf (quadAt (rowOf 384 placedAt) (g * 8 + u)) (laneIn counted (i / 2))) (2 * x + (i + counted) % 2) ≡ carriedBit s (g / 8) symbol i
+  unfolding carriedBit
+  carried i c =
+      let r = laneIn symbol (i / 2) in
+      let v = (i + symbol) % 2 in
+      let w = 4 * g + r in
+      let j = 32 * u + x - 1 in
+      let p : (i + counted) % 2 ≡ v = counted-even i counted symbol (counted-mod g u x behind) in
+      let o : g * 8 + u + 2 * r ≡ 2 * w + u = omega arith in
+      let q : 64 * u + (2 * x + v) - 2 ≡ 2 * j + v = omega arith in
+      let hr : r < 4 = lane-lt symbol (i / 2) in
+      (λ k. bitOf 64 (numberOf (quadAt (rowOf 384 placedAt) (g * 8 + u)) (counted-lane (i / 2) k)) (2 * x + p k))
+      ∙ ap (λ (n : ℕ). bitOf 64 n (2 * x + v)) (quad-number (rowOf 384 placedAt) (g * 8 + u) r hr ∙ ap (λ (k : ℕ). getD (rowOf 384 placedAt) k 0) o)
+      ∙ row-bit 384 placedAt w u (2 * x + v) (omega arith) (value-lt 2 126 _ (λ q _. bit-lt 126 (wordAt s w) _)) hu (omega arith) (omega arith)
+      ∙ ap (bitOf 126 (placedAt w)) q
+      ∙ bit-number 126 _ (λ q _. bit-lt 126 (wordAt s w) _) (2 * j + v) (omega arith)
+      ∙ (λ k. bitOf 126 (wordAt s (sym (word-is g j h (omega arith) (i / 2)) k))
+      (unplace (sym (lane-is g j h (omega arith) (i / 2)) k) (sym (place-is g j h (omega arith) i) k)))
+
+  half-payload : symbolFrom 32 (g * 63 + 3) (numberOf (quadAt (shuffled s) (g * 8 + u))) x ≡ payload s (63 * g + (32 * u + x - 1))
+  unfolding symbolFrom payload shuffled
+  half-payload =
+      let d : g / 8 ≡ (63 * g + (32 * u + x - 1)) / 504 = omega arith in
+      let m : symbol ≡ (63 * g + (32 * u + x - 1)) % 504 = omega arith in
+      value-cong 2 8 _ _ carried ∙ λ k. number 8 (carriedBit s (d k) (m k))
 
 -- symbol by symbol the frame of the row that was shuffled is the frame of the row
 mapped-is : (s : List ℕ) (t : ℕ) → t < 6144 → mappedAt (shuffled s) t ≡ symbolAt s t
-unfolding mappedAt symbolAt
+unfolding mappedAt groupSymbol behindPilot symbolAt
 mapped-is s t h = go (ℕ-discrete (t % 64) 0)
   where
     go : Dec (t % 64 ≡ 0)
-        → cond (eqb (t % 64) 0) (getD pilots (t / 64) 0) (groupSymbol (shuffled s) (t / 64) (t % 64 - 1))
+        → cond (eqb (t % 64) 0) (getD pilots (t / 64) 0) (behindPilot (shuffled s) (t / 64) (t % 64))
         ≡ cond (eqb (t % 64) 0) (getD pilots (t / 64) 0) (payload s (63 * (t / 64) + t % 64 - 1))
     go (yes e) = rw (eq-eqb (t % 64) 0 e)
     go (no e) =
-        let z : 63 * (t / 64) + (t % 64 - 1) ≡ 63 * (t / 64) + t % 64 - 1 = omega arith in
-        rw (ne-eqb (t % 64) 0 e) (group-is s (t / 64) (t % 64 - 1) (omega arith) (omega arith) ∙ ap (payload s) z)
+        let z : 63 * (t / 64) + (32 * (t % 64 / 32) + t % 64 % 32 - 1) ≡ 63 * (t / 64) + t % 64 - 1 = omega arith in
+        rw (ne-eqb (t % 64) 0 e)
+        (half-payload s (t / 64) (t % 64 / 32) (t % 64 % 32) (omega arith) (omega arith) (omega arith) (omega arith) ∙ ap (payload s) z)
 
 -- the frame of the row that was shuffled
 pub frame-is : (s p : List ℕ) → p ≡ shuffled s → tabulate 6144 (mappedAt p) ≡ frameOf s

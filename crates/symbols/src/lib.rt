@@ -1,5 +1,7 @@
 // Mapping and the DSP frame: a frame's words to its symbols and back.
 // A word is two numbers: hi has bits 0 to 61 in its 62 low bits, lo has bits 62 to 125. Word 32 k + p of a frame is word k of lane p.
+// Group g of a frame's symbols, 64 g to 64 g + 63, is a pilot and 63 symbols of words 4 g to 4 g + 3. Symbol j of the 63 is number 63 g + j, of which only the
+// remainder by 4 counts: 63 g + 3 is the number in the pilot's place, where an upper number has two bits that are no part of the word.
 ghost use mathlib.Core.Path.{_≡_};
 ghost use Prim.Native.Nat.{_<_, _≤_, _+_, _%_, _^_};
 ghost use lib.ListN.{length, drop};
@@ -7,7 +9,8 @@ ghost use Rattle.bits.specs.definitions.Bits.{tabulate};
 ghost use Rattle.pilots.specs.definitions.Table5.{pilots};
 ghost use Rattle.mapper_tables.specs.private.Tables.{IsParts, IsDibits, partsOf, dibitsOf};
 ghost use Rattle.symbols.specs.definitions.Frame.{frameOf, wordsOf};
-ghost use Rattle.symbols.specs.private.Numbers.{Room, numberOf, quadAt, symbolFrom, fourSymbols, mappedAt, quadOf, fieldsOf, joined, quadPut, gatheredAt};
+ghost use Rattle.symbols.specs.private.Numbers.{numberOf, quadAt, symbolFrom, fourSymbols, groupSymbol, mappedAt};
+ghost use Rattle.symbols.specs.private.Numbers.{Room, quadOf, fieldsOf, joined, quadPut, gatheredAt};
 
 // A number of each of four lanes.
 struct Quad {
@@ -17,7 +20,7 @@ struct Quad {
     d: u64,
 }
 
-// What lane r, of four, puts into the bytes of four symbols, of which the first is number l, with the four low pairs of bits of x.
+// What lane r, of four, puts into the bytes of four symbols, of which the first is number l, with the four low dibits of x.
 fn parts(t: &[u32; 4096], l: usize, r: usize, x: u64) -> u64
     requires { ⌜ IsParts (now t) ⌝ }
     requires { ⌜ r < 4 ⌝ }
@@ -27,7 +30,7 @@ fn parts(t: &[u32; 4096], l: usize, r: usize, x: u64) -> u64
     bits::wide32(t[k])
 }
 
-// Four symbols side by side, of which the first is number l: from the four pairs of bits of each number above its m low ones.
+// Four symbols side by side, of which the first is number l: from the four dibits of each number above its m low ones.
 fn four_symbols(t: &[u32; 4096], q: Quad, m: usize, l: usize) -> u64
     requires { ⌜ IsParts (now t) ⌝ }
     requires { ⌜ m ≤ 28 ⌝ }
@@ -71,7 +74,25 @@ fn quad_at(s: &[u64], o: usize) -> Quad
     Quad { a, b, c, d }
 }
 
-// The frame of words whose bits stand at their places: a pilot, and 63 symbols of four words.
+// The 64 symbols of group g of a frame: a pilot, and 63 of four words whose bits stand at their places, 32 by their upper numbers and 32 by their lower ones.
+fn map_group(t: &[u32; 4096], pilot: u8, words: &[u64], g: usize, out: &mut [u8])
+    requires { ⌜ IsParts (now t) ⌝ }
+    requires { ⌜ (length (now words) ≡ 768) × ((g < 96) × (length (now out) ≡ 64)) ⌝ }
+    ensures { λ _. ⌜ now (out .exit) ≡ tabulate 64 (groupSymbol pilot (now (words .entry)) g) ⌝ }
+{
+    let l = g * 63 + 3;
+    let o = g * 8;
+    let a: usize = 0;
+    let m: usize = 32;
+    let e: usize = 64;
+    let upper = quad_at(words, o);
+    fill(t, upper, l, &mut out[a..m]);
+    let lower = quad_at(words, o + 1);
+    fill(t, lower, l, &mut out[m..e]);
+    out[0] = pilot;
+}
+
+// The frame of words whose bits stand at their places.
 fn map_words(t: &[u32; 4096], p: &[u8; 96], words: &[u64], frame: &mut [u8])
     requires { ⌜ IsParts (now t) ⌝ }
     requires { ⌜ now p ≡ pilots ⌝ }
@@ -80,20 +101,9 @@ fn map_words(t: &[u32; 4096], p: &[u8; 96], words: &[u64], frame: &mut [u8])
 {
     let mut g: usize = 0;
     while g < 96 {
-        let l = g % 8 * 63;
-        let upper = quad_at(words, g * 8);
-        let lower = quad_at(words, g * 8 + 1);
         let a = g * 64;
-        let b = g * 64 + 4;
-        let m = g * 64 + 32;
         let e = g * 64 + 64;
-        let v = four_symbols(t, upper, 28, l + 3);
-        frame[a] = p[g];
-        frame[a + 1] = (v / 65536 % 256) as u8;
-        frame[a + 2] = (v / 256 % 256) as u8;
-        frame[a + 3] = (v % 256) as u8;
-        fill(t, upper, l + 3 + 4, &mut frame[b..m]);
-        fill(t, lower, l + 31, &mut frame[m..e]);
+        map_group(t, p[g], words, g, &mut frame[a..e]);
         g += 1;
     }
 }
@@ -103,13 +113,13 @@ pub fn frame_from_words(words: &[u64; 768], frame: &mut [u8; 6144])
     ensures { λ _. ⌜ now (frame .exit) ≡ frameOf (now (words .entry)) ⌝ }
 {
     let t = mapper_tables::parts();
-    let p = pilots::table();
+    let p = pilots::pilots();
     let mut placed = [0u64; 768];
     shuffle::shuffle_words(words, &mut placed);
     map_words(&t, &p, &placed, frame);
 }
 
-// The four lanes' pairs of bits of symbol l, in fields of 16 bits.
+// The four lanes' dibits of symbol l, in fields of 16 bits.
 fn dibits(t: &[u64; 1024], x: u8, l: usize) -> u64
     requires { ⌜ IsDibits (now t) ⌝ }
     ensures { λ r. ⌜ r ≡ dibitsOf l x ⌝ }
@@ -149,7 +159,7 @@ fn join(q: Quad, v: u64) -> Quad
 // The four lanes' numbers in 32 symbols from place at on, the first of which is number l.
 fn gather(t: &[u64; 1024], s: &[u8], at: usize, l: usize) -> Quad
     requires { ⌜ IsDibits (now t) ⌝ }
-    requires { ⌜ (at + 32 ≤ length (now s)) × (l < 1024) ⌝ }
+    requires { ⌜ (at + 32 ≤ length (now s)) × (l < 6144) ⌝ }
     ensures { λ r. ⌜ r ≡ quadOf 32 l (drop at (now (s .entry))) ⌝ }
 {
     let mut q = Quad {
@@ -186,7 +196,7 @@ fn gather_words(t: &[u64; 1024], frame: &[u8], words: &mut [u64])
 {
     let mut h: usize = 0;
     while h < 192 {
-        let l = h / 2 % 8 * 63 + 3 + h % 2 * 28;
+        let l = h / 2 * 63 + 3;
         let q = gather(t, frame, h * 32, l);
         let o = h / 2 * 8 + h % 2;
         put_quad(q, o, words);

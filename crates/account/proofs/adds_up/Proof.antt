@@ -11,10 +11,14 @@ returns-2 : tie.Need-returns-2
 returns-2 c = too-many (c .before .before .before .before .before .args .t) (c .before .before .before .before .before .args .n) (omega arith)
 
 returns-3 : tie.Need-returns-3
-returns-3 c = too-many (c .before .before .before .before .before .before .before .before .args .t) (c .before .before .before .before .before .before .before .before .args .n) (omega arith)
+returns-3 c =
+    too-many (c .before .before .before .before .before .before .before .before .args .t)
+    (c .before .before .before .before .before .before .before .before .args .n) (omega arith)
 
 returns-4 : tie.Need-returns-4
-returns-4 c = left-over (c .before .before .before .before .before .before .before .before .before .before .args .t) (c .before .before .before .before .before .before .before .before .before .before .args .n) (omega arith) (omega arith) (omega arith)
+returns-4 c =
+    left-over (c .before .before .before .before .before .before .before .before .before .before .args .t)
+    (c .before .before .before .before .before .before .before .before .before .before .args .n) (omega arith) (omega arith) (omega arith)
 
 pub adds-up-spec : {M : Type 1} → statement M
 adds-up-spec = tie.close (tie.spec returns returns-2 returns-3 returns-4)

@@ -5,12 +5,9 @@ use borrow.Author.Needs.{needs}
 use Rattle.account.proofs.ahead.Statement.{statement}
 use Rattle.account.proofs.ahead.Tie as tie
 
-wrapping-sub-u32-requires : tie.Need-wrapping-sub-u32-requires
-wrapping-sub-u32-requires c κs = search needs
-
 returns : tie.Need-returns
 unfolding ahead
 returns c = omega arith
 
 pub ahead-spec : {M : Type 1} → statement M
-ahead-spec = tie.close (tie.spec wrapping-sub-u32-requires returns)
+ahead-spec = tie.close (tie.spec (λ c κs. search needs) returns)

@@ -21,31 +21,25 @@ loop-holds : tie.Need-loop-holds Inv-loop μ-loop
 unfolding count
 loop-holds c = (omega arith, refl)
 
-shared-slice-read-same : tie.Need-shared-slice-read-same Inv-loop μ-loop
-shared-slice-read-same c = omega arith
-
-same-requires : tie.Need-same-requires Inv-loop μ-loop
-same-requires c κs = search needs
-
 -- one byte more
-turn : (c : tie.After-same Inv-loop μ-loop)
+one-more : (c : tie.After-same Inv-loop μ-loop)
     → c .before .before .before .loop .n + c .same .result
-    ≡ count (λ word. eqb (getD (c .before .before .before .before .before .args .flags .now) word 0) (c .before .before .before .before .before .args .v)) (c .before .before .before .loop .i + 1)
+    ≡ count (λ word. eqb (getD (c .before .before .before .before .before .args .flags .now) word 0) (c .before .before .before .before .before .args .v))
+    (c .before .before .before .loop .i + 1)
 unfolding count
-turn c = rw (add-one, c .same .ensures, c .before .before .before .loop .inv .1) (omega arith)
+one-more c = rw (add-one, c .same .ensures, c .before .before .before .loop .inv .1) (omega arith)
 
 add-n : tie.Need-add-n Inv-loop μ-loop
 add-n c =
-    omega (arith, turn c, count-le (λ word. eqb (getD (c .before .before .before .before .before .args .flags .now) word 0) (c .before .before .before .before .before .args .v)) (c .before .before .before .loop .i + 1))
-
-add-i : tie.Need-add-i Inv-loop μ-loop
-add-i c = omega arith
-
-loop-less : tie.Need-loop-less Inv-loop μ-loop
-loop-less c = omega arith
+    omega (
+      arith,
+      one-more c,
+      count-le (λ word. eqb (getD (c .before .before .before .before .before .args .flags .now) word 0)
+          (c .before .before .before .before .before .args .v)) (c .before .before .before .loop .i + 1),
+    )
 
 loop-again : tie.Need-loop-again Inv-loop μ-loop
-loop-again c = (omega arith, turn c)
+loop-again c = (omega arith, one-more c)
 
 returns : tie.Need-returns Inv-loop μ-loop
 returns c =
@@ -59,10 +53,10 @@ count-flags-spec =
     Inv-loop
     μ-loop
     loop-holds
-    shared-slice-read-same
-    same-requires
+    (λ c. omega arith)
+    (λ c κs. search needs)
     add-n
-    add-i
-    loop-less
+    (λ c. omega arith)
+    (λ c. omega arith)
     loop-again
     returns)

@@ -1,31 +1,18 @@
 -- `account::verdict_number` meets its contract, case by case. Assumes nothing.
-use mathlib.Core.Path.{sym, ap}
+use Rattle.bits.proofs.Cases.{at-case}
 use Rattle.account.specs.definitions.Account.{verdictNumber}
 use borrow.Author.Needs.{needs}
 use Rattle.account.proofs.verdict_number.Statement.{statement}
 use Rattle.account.proofs.verdict_number.Tie as tie
 
-enum-told : tie.Need-enum-told
-enum-told c = search needs
-
-enum-told-2 : tie.Need-enum-told-2
-enum-told-2 c = search needs
-
-enum-told-3 : tie.Need-enum-told-3
-enum-told-3 c = search needs
-
-returns : tie.Need-returns
-unfolding verdictNumber
-returns c = sym (ap verdictNumber (c .enum-told .given .1))
-
-returns-2 : tie.Need-returns-2
-unfolding verdictNumber
-returns-2 c = sym (ap verdictNumber (c .enum-told2 .given .1))
-
-returns-3 : tie.Need-returns-3
-unfolding verdictNumber
-returns-3 c = sym (ap verdictNumber (c .enum-told3 .given .1))
-
 pub verdict-number-spec : {M : Type 1} → statement M
+unfolding verdictNumber
 verdict-number-spec =
-    tie.close (tie.spec enum-told enum-told-2 enum-told-3 returns returns-2 returns-3)
+    tie.close
+    (tie.spec
+    (λ c. search needs)
+    (λ c. search needs)
+    (λ c. search needs)
+    (λ c. at-case verdictNumber (c .enum-told .given .1))
+    (λ c. at-case verdictNumber (c .enum-told2 .given .1))
+    (λ c. at-case verdictNumber (c .enum-told3 .given .1)))

@@ -69,12 +69,17 @@ abbrev pub grown : Account → ℕ → ℕ → ℕ → Tallies → Account
 grown a got accepted missing t =
     record { expected = (got + 1) % 2 ^ 32; accepted = a .accepted + accepted; missing = a .missing + missing; words = added (a .words) t }
 
+-- accepted or missing frames stand above their limit
+abbrev pub framesOver : (accepted missing : ℕ) → Bool
+framesOver accepted missing = ltb frameLimit accepted || ltb frameLimit missing
+
+-- some tally stands above its limit
+abbrev pub wordsOver : Tallies → Bool
+wordsOver t = ltb tallyLimit (t .clean) || (ltb tallyLimit (t .one) || (ltb tallyLimit (t .two) || ltb tallyLimit (t .flagged)))
+
 -- some field stands above its limit (refusal 11)
 unfoldable pub over : Account → Bool
-over a =
-    ltb frameLimit (a .accepted)
-    || (ltb frameLimit (a .missing)
-    || (ltb tallyLimit (a .words .clean) || (ltb tallyLimit (a .words .one) || (ltb tallyLimit (a .words .two) || ltb tallyLimit (a .words .flagged)))))
+over a = framesOver (a .accepted) (a .missing) || wordsOver (a .words)
 
 -- with a frame: the d frames before it are missing
 abbrev pub withFrame : Account → ℕ → Tallies → Account

@@ -5,14 +5,8 @@ use borrow.Author.Needs.{needs}
 use Rattle.adderbloom.proofs.lr800_verdict.Statement.{statement}
 use Rattle.adderbloom.proofs.lr800_verdict.Tie as tie
 
-verdict-of-requires : tie.Need-verdict-of-requires
-verdict-of-requires c κs = search needs
-
-verdict-number-requires : tie.Need-verdict-number-requires
-verdict-number-requires c κs = search needs
-
 returns : tie.Need-returns
 returns c = c .verdict-number .ensures ∙ ap verdictNumber (c .before .verdict-of .ensures)
 
 pub lr800-verdict-spec : {M : Type 1} → statement M
-lr800-verdict-spec = tie.close (tie.spec verdict-of-requires verdict-number-requires returns)
+lr800-verdict-spec = tie.close (tie.spec (λ c κs. search needs) (λ c κs. search needs) returns)

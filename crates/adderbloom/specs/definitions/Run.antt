@@ -38,7 +38,8 @@ stateOf r store = record { run = runOf r; store = store }
 abbrev pub wholeStore : List ℕ → Bool
 wholeStore store = eqb (length store) 2880
 
--- a call of the step with the run r, the store s and one record's bytes: the number answered, and the run and the store at exit; a store of another length is refused by 2, and nothing is changed
+-- a call of the step with the run r, the store s and one record's bytes: the number answered, and the run and the store at exit; a store of another
+-- length is refused by 2, and nothing is changed
 pub record Steps (r : Run) (s piece : List ℕ) (n : ℕ) (r′ : Run) (s′ : List ℕ) : Type 0 where
   pub number : n ≡ cond (wholeStore s) (stepRefusal (stateOf r s) piece) 2
   pub run : r′ ≡ cond (wholeStore s) (keptRun (stepped (stateOf r s) piece .run)) r

@@ -18,18 +18,6 @@ loop-holds : tie.Need-loop-holds Inv-loop μ-loop
 unfolding feedOf
 loop-holds c = (omega arith, rw sub-self, omega arith)
 
-sub-k : tie.Need-sub-k Inv-loop μ-loop
-sub-k c = omega arith
-
-shr-step : tie.Need-shr-step Inv-loop μ-loop
-shr-step c = omega arith
-
-step-requires : tie.Need-step-requires Inv-loop μ-loop
-step-requires c κs = (omega arith, omega arith)
-
-loop-less : tie.Need-loop-less Inv-loop μ-loop
-loop-less c = omega arith
-
 loop-again : tie.Need-loop-again Inv-loop μ-loop
 loop-again c =
     let g = feed-step _ _ _ _ _ _ (c .before .before .before .pre .0) (omega arith) (omega arith) (c .before .before .loop .inv .1) (c .step .ensures) in
@@ -43,4 +31,4 @@ returns c =
 pub feed-spec : {M : Type 1} → statement M
 feed-spec =
     tie.close
-    (tie.spec Inv-loop μ-loop loop-holds sub-k shr-step step-requires loop-less loop-again returns)
+    (tie.spec Inv-loop μ-loop loop-holds (λ c. omega arith) (λ c. omega arith) (λ c κs. (omega arith, omega arith)) (λ c. omega arith) loop-again returns)

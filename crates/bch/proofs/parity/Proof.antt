@@ -5,17 +5,11 @@ use borrow.Author.Needs.{needs}
 use Rattle.bch.proofs.parity.Statement.{statement}
 use Rattle.bch.proofs.parity.Tie as tie
 
-feed-requires : tie.Need-feed-requires
-feed-requires c κs = search needs
-
-mul-feed : tie.Need-mul-feed
-mul-feed c = search needs
-
-feed-requires-2 : tie.Need-feed-requires-2
-feed-requires-2 c κs = search needs
-
-returns : tie.Need-returns
-returns c = parity-law _ _ _ _ _ (search needs) refl (c .before .feed .ensures .0) (c .feed2 .ensures .0)
-
 pub parity-spec : {M : Type 1} → statement M
-parity-spec = tie.close (tie.spec feed-requires mul-feed feed-requires-2 returns)
+parity-spec =
+    tie.close
+    (tie.spec
+    (λ c κs. search needs)
+    (λ c. search needs)
+    (λ c κs. search needs)
+    (λ c. parity-law _ _ _ _ _ (search needs) refl (c .before .feed .ensures .0) (c .feed2 .ensures .0)))

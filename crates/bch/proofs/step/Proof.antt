@@ -8,12 +8,6 @@ use borrow.Author.Needs.{needs}
 use Rattle.bch.proofs.step.Statement.{statement}
 use Rattle.bch.proofs.step.Tie as tie
 
-mul-v : tie.Need-mul-v
-mul-v c = search needs
-
-add-v : tie.Need-add-v
-add-v c = search needs
-
 returns : tie.Need-returns
 unfolding stepOf
 returns c = let e : c .before .args .r / 32768 ≡ 0 = omega arith in rw (e, xor-zero-r)
@@ -23,4 +17,4 @@ unfolding stepOf
 returns-2 c = let e : c .before .args .r / 32768 ≡ 1 = omega arith in rw e
 
 pub step-spec : {M : Type 1} → statement M
-step-spec = tie.close (tie.spec mul-v add-v returns returns-2)
+step-spec = tie.close (tie.spec (λ c. search needs) (λ c. search needs) returns returns-2)

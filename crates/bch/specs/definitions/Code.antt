@@ -47,6 +47,6 @@ parityOf m = remainder 126 (m * 2 ^ 16)
 unfoldable pub coded : ℕ → ℕ
 coded m = m * 2 ^ 16 + parityOf m
 
--- the word with bit i turned over
+-- the word with bit i flipped
 unfoldable pub flipped : ℕ → ℕ → ℕ
 flipped i w = bitXor w (2 ^ (125 - i))

@@ -1,4 +1,4 @@
--- What is sent of the word code (01, BCH; demand 2); `proofs/Theorems` proves it.
+-- What is sent of a word (01, BCH; demand 2); `proofs/Theorems` proves it.
 -- Assumes nothing.
 use mathlib.Core.Path.{_≡_}
 use Prim.Native.Nat.{ℕ, _/_, _^_, _<_}

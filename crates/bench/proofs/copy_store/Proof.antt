@@ -5,11 +5,8 @@ use borrow.Author.Needs.{needs}
 use Rattle.bench.proofs.copy_store.Statement.{statement}
 use Rattle.bench.proofs.copy_store.Tie as tie
 
-copy-requires : tie.Need-copy-requires
-copy-requires c κs = search needs
-
 returns : tie.Need-returns
 returns c = (c .copy .ensures ∙ copied-all _ _ (search needs), search needs)
 
 pub copy-store-spec : {M : Type 1} → statement M
-copy-store-spec = tie.close (tie.spec copy-requires returns)
+copy-store-spec = tie.close (tie.spec (λ c κs. search needs) returns)

@@ -15,41 +15,24 @@ Inv-loop capture store₀ run₀ place₀ store run place = Ahead capture place 
 abbrev μ-loop : tie.MeasureT-loop
 μ-loop capture store₀ run₀ place₀ store run place = length capture - place
 
-begun-requires : tie.Need-begun-requires Inv-loop μ-loop
-begun-requires c κs = search needs
-
 loop-holds : tie.Need-loop-holds Inv-loop μ-loop
 loop-holds c = walk-starts _ _ (c .begun .ensures)
 
-read-at-requires : tie.Need-read-at-requires Inv-loop μ-loop
-read-at-requires c κs = search needs
-
-sub-step : tie.Need-sub-step Inv-loop μ-loop
-sub-step c = search needs
-
-part-step-start : tie.Need-part-step-start Inv-loop μ-loop
-part-step-start c = search needs
-
-part-step-end : tie.Need-part-step-end Inv-loop μ-loop
-part-step-end c = search needs
-
-step-requires : tie.Need-step-requires Inv-loop μ-loop
-step-requires c κs = search needs
-
-next-place-requires : tie.Need-next-place-requires Inv-loop μ-loop
-next-place-requires c κs = search needs
-
 returns : tie.Need-returns Inv-loop μ-loop
-returns c = ap (λ (x : State). x .run) (walk-stops _ _ _ (c .before .before .before .before .before .before .before .before .loop .inv) (c .before .before .before .before .before .before .before .loop-test .taken) _ (c .before .before .before .before .before .before .read-at .ensures) _ (c .before .before .before .step .ensures .0) _ (c .before .next-place .ensures) (search needs))
-
-loop-less : tie.Need-loop-less Inv-loop μ-loop
-loop-less c = search needs
+returns c =
+    ap (λ (x : State). x .run) (walk-stops _ _ _ (c .before .before .before .before .before .before .before .before .loop .inv)
+    (c .before .before .before .before .before .before .before .loop-test .taken) _ (c .before .before .before .before .before .before .read-at .ensures) _
+    (c .before .before .before .step .ensures .0) _ (c .before .next-place .ensures) (search needs))
 
 loop-again : tie.Need-loop-again Inv-loop μ-loop
-loop-again c = walk-goes _ _ _ (c .before .before .before .before .before .before .before .before .loop .inv) (c .before .before .before .before .before .before .before .loop-test .taken) _ (c .before .before .before .before .before .before .read-at .ensures) _ (c .before .before .before .step .ensures .0) _ (c .before .next-place .ensures) (search needs)
+loop-again c =
+    walk-goes _ _ _ (c .before .before .before .before .before .before .before .before .loop .inv)
+    (c .before .before .before .before .before .before .before .loop-test .taken) _ (c .before .before .before .before .before .before .read-at .ensures) _
+    (c .before .before .before .step .ensures .0) _ (c .before .next-place .ensures) (search needs)
 
 returns-2 : tie.Need-returns-2 Inv-loop μ-loop
-returns-2 c = ap (λ (x : State). x .run) (walk-ends _ _ (record { run = c .before .loop .run; store = c .before .loop .store }) (c .before .loop .inv) (search needs))
+returns-2 c =
+    ap (λ (x : State). x .run) (walk-ends _ _ (record { run = c .before .loop .run; store = c .before .loop .store }) (c .before .loop .inv) (search needs))
 
 pub examine-capture-spec : {M : Type 1} → statement M
 examine-capture-spec =
@@ -57,15 +40,15 @@ examine-capture-spec =
     (tie.spec
     Inv-loop
     μ-loop
-    begun-requires
+    (λ c κs. search needs)
     loop-holds
-    read-at-requires
-    sub-step
-    part-step-start
-    part-step-end
-    step-requires
-    next-place-requires
+    (λ c κs. search needs)
+    (λ c. search needs)
+    (λ c. search needs)
+    (λ c. search needs)
+    (λ c κs. search needs)
+    (λ c κs. search needs)
     returns
-    loop-less
+    (λ c. search needs)
     loop-again
     returns-2)

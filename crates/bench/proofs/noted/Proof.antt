@@ -6,17 +6,12 @@ use borrow.Author.Needs.{needs}
 use Rattle.bench.proofs.noted.Statement.{statement}
 use Rattle.bench.proofs.noted.Tie as tie
 
-stopped-requires : tie.Need-stopped-requires
-stopped-requires c κs = search needs
-
 returns : tie.Need-returns
-returns c = rw (ne-eqb _ _ (c .before .if1 .taken)) (ap (λ (r : Run). record { refusal = c .before .before .before .args .e .refusal; run = r }) (c .stopped .ensures))
-
-going-requires : tie.Need-going-requires
-going-requires c κs = search needs
+returns c =
+    rw (ne-eqb _ _ (c .before .if1 .taken)) (ap (λ (r : Run). record { refusal = c .before .before .before .args .e .refusal; run = r }) (c .stopped .ensures))
 
 returns-2 : tie.Need-returns-2
 returns-2 c = rw (c .before .before .if1 .left, c .going .ensures) refl
 
 pub noted-spec : {M : Type 1} → statement M
-noted-spec = tie.close (tie.spec stopped-requires returns going-requires returns-2)
+noted-spec = tie.close (tie.spec (λ c κs. search needs) returns (λ c κs. search needs) returns-2)

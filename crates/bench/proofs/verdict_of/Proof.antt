@@ -7,12 +7,6 @@ use borrow.Author.Needs.{needs}
 use Rattle.bench.proofs.verdict_of.Statement.{statement}
 use Rattle.bench.proofs.verdict_of.Tie as tie
 
-goes-on-requires : tie.Need-goes-on-requires
-goes-on-requires c κs = search needs
-
-verdict-of-requires : tie.Need-verdict-of-requires
-verdict-of-requires c κs = search needs
-
 returns : tie.Need-returns
 unfolding verdictOf
 returns c =
@@ -20,4 +14,4 @@ returns c =
     c .verdict-of .ensures ∙ ap (λ (b : Bool). verdict (r .asked) (r .allowed) (r .account) (not b)) (c .before .goes-on .ensures)
 
 pub verdict-of-spec : {M : Type 1} → statement M
-verdict-of-spec = tie.close (tie.spec goes-on-requires verdict-of-requires returns)
+verdict-of-spec = tie.close (tie.spec (λ c κs. search needs) (λ c κs. search needs) returns)

@@ -57,7 +57,8 @@ framed st got f = noted st (entryOf (st .run .account) got f) (cond (locks f 0) 
 
 -- an order: the first is taken, with a new account and a fresh store; a second one stops the run
 unfoldable pub orderCame : Phase → State → (start asked allowed : ℕ) → State
-orderCame Unordered st start asked allowed = record { run = record { phase = Going; asked = asked; allowed = allowed; account = opened start }; store = replicate 2880 0 }
+orderCame Unordered st start asked allowed =
+    record { run = record { phase = Going; asked = asked; allowed = allowed; account = opened start }; store = replicate 2880 0 }
 orderCame Going st start asked allowed = record { run = stopped (st .run); store = st .store }
 orderCame Stopped st start asked allowed = st
 

@@ -8,23 +8,13 @@ use borrow.Author.Needs.{needs}
 use Rattle.capture.proofs.frame_at.Statement.{statement}
 use Rattle.capture.proofs.frame_at.Tie as tie
 
-refusal-at-requires : tie.Need-refusal-at-requires
-refusal-at-requires c κs = search needs
-
 returns : tie.Need-returns
 returns c = frame-refused _ _ _ (search needs) (search needs)
 
-add-big-endian-at : tie.Need-add-big-endian-at
-add-big-endian-at c = search needs
-
 big-endian-at-requires : tie.Need-big-endian-at-requires
-big-endian-at-requires c κs = room (now (c .before .before .before .args .capture)) (c .before .before .before .args .place) (layout .frameBytes) (layout .frameKind) (layout .numberAt) (search needs) (search needs)
-
-add-t6 : tie.Need-add-t6
-add-t6 c = search needs
-
-add-t7 : tie.Need-add-t7
-add-t7 c = search needs
+big-endian-at-requires c κs =
+    room (now (c .before .before .before .args .capture)) (c .before .before .before .args .place) (layout .frameBytes) (layout .frameKind) (layout .numberAt)
+    (search needs) (search needs)
 
 returns-2 : tie.Need-returns-2
 returns-2 c = frame-read _ _ _ (search needs) (search needs)
@@ -32,4 +22,4 @@ returns-2 c = frame-read _ _ _ (search needs) (search needs)
 pub frame-at-spec : {M : Type 1} → statement M
 frame-at-spec =
     tie.close
-    (tie.spec refusal-at-requires returns add-big-endian-at big-endian-at-requires add-t6 add-t7 returns-2)
+    (tie.spec (λ c κs. search needs) returns (λ c. search needs) big-endian-at-requires (λ c. search needs) (λ c. search needs) returns-2)

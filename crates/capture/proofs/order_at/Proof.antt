@@ -8,32 +8,23 @@ use borrow.Author.Needs.{needs}
 use Rattle.capture.proofs.order_at.Statement.{statement}
 use Rattle.capture.proofs.order_at.Tie as tie
 
-refusal-at-requires : tie.Need-refusal-at-requires
-refusal-at-requires c κs = search needs
-
 returns : tie.Need-returns
 returns c = order-refused _ _ _ (search needs) (search needs)
 
-add-big-endian-at : tie.Need-add-big-endian-at
-add-big-endian-at c = search needs
-
 big-endian-at-requires : tie.Need-big-endian-at-requires
-big-endian-at-requires c κs = room (now (c .before .before .before .args .capture)) (c .before .before .before .args .place) (layout .orderBytes) (layout .orderKind) (layout .startAt) (search needs) (search needs)
-
-add-big-endian-at-2 : tie.Need-add-big-endian-at-2
-add-big-endian-at-2 c = search needs
+big-endian-at-requires c κs =
+    room (now (c .before .before .before .args .capture)) (c .before .before .before .args .place) (layout .orderBytes) (layout .orderKind) (layout .startAt)
+    (search needs) (search needs)
 
 big-endian-at-requires-2 : tie.Need-big-endian-at-requires-2
-big-endian-at-requires-2 c κs = room (now (c .before .before .before .before .args .capture)) (c .before .before .before .before .args .place) (layout .orderBytes) (layout .orderKind) (layout .askedAt) (search needs) (search needs)
-
-add-big-endian-at-3 : tie.Need-add-big-endian-at-3
-add-big-endian-at-3 c = search needs
+big-endian-at-requires-2 c κs =
+    room (now (c .before .before .before .before .args .capture)) (c .before .before .before .before .args .place) (layout .orderBytes) (layout .orderKind)
+    (layout .askedAt) (search needs) (search needs)
 
 big-endian-at-requires-3 : tie.Need-big-endian-at-requires-3
-big-endian-at-requires-3 c κs = room (now (c .before .before .before .before .before .args .capture)) (c .before .before .before .before .before .args .place) (layout .orderBytes) (layout .orderKind) (layout .allowedAt) (search needs) (search needs)
-
-add-t8 : tie.Need-add-t8
-add-t8 c = search needs
+big-endian-at-requires-3 c κs =
+    room (now (c .before .before .before .before .before .args .capture)) (c .before .before .before .before .before .args .place) (layout .orderBytes)
+    (layout .orderKind) (layout .allowedAt) (search needs) (search needs)
 
 returns-2 : tie.Need-returns-2
 returns-2 c = order-read _ _ _ _ _ (search needs) (search needs) (search needs) (search needs)
@@ -42,13 +33,13 @@ pub order-at-spec : {M : Type 1} → statement M
 order-at-spec =
     tie.close
     (tie.spec
-    refusal-at-requires
+    (λ c κs. search needs)
     returns
-    add-big-endian-at
+    (λ c. search needs)
     big-endian-at-requires
-    add-big-endian-at-2
+    (λ c. search needs)
     big-endian-at-requires-2
-    add-big-endian-at-3
+    (λ c. search needs)
     big-endian-at-requires-3
-    add-t8
+    (λ c. search needs)
     returns-2)

@@ -9,23 +9,11 @@ use Rattle.capture.proofs.read_at.Tie as tie
 returns : tie.Need-returns
 returns c = at-end _ _ (search needs)
 
-sub-if2 : tie.Need-sub-if2
-sub-if2 c = search needs
-
 returns-2 : tie.Need-returns-2
 returns-2 c = no-length _ _ (search needs) (search needs)
 
-big-endian-at-requires : tie.Need-big-endian-at-requires
-big-endian-at-requires c κs = search needs
-
-order-at-requires : tie.Need-order-at-requires
-order-at-requires c κs = search needs
-
 returns-3 : tie.Need-returns-3
 returns-3 c = (search needs) ∙ an-order _ _ (search needs) (search needs) (search needs)
-
-frame-at-requires : tie.Need-frame-at-requires
-frame-at-requires c κs = search needs
 
 returns-4 : tie.Need-returns-4
 returns-4 c = (search needs) ∙ a-frame _ _ (search needs) (search needs) (search needs) (search needs)
@@ -38,11 +26,11 @@ read-at-spec =
     tie.close
     (tie.spec
     returns
-    sub-if2
+    (λ c. search needs)
     returns-2
-    big-endian-at-requires
-    order-at-requires
+    (λ c κs. search needs)
+    (λ c κs. search needs)
     returns-3
-    frame-at-requires
+    (λ c κs. search needs)
     returns-4
     returns-5)

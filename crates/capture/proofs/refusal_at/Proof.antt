@@ -5,26 +5,11 @@ use borrow.Author.Needs.{needs}
 use Rattle.capture.proofs.refusal_at.Statement.{statement}
 use Rattle.capture.proofs.refusal_at.Tie as tie
 
-sub-if1 : tie.Need-sub-if1
-sub-if1 c = search needs
-
 returns : tie.Need-returns
 returns c = refused-short _ _ _ _ (search needs)
 
-add-if2 : tie.Need-add-if2
-add-if2 c = search needs
-
-shared-slice-read-if2 : tie.Need-shared-slice-read-if2
-shared-slice-read-if2 c = search needs
-
 returns-2 : tie.Need-returns-2
 returns-2 c = refused-version _ _ _ _ (search needs) (search needs)
-
-add-if3 : tie.Need-add-if3
-add-if3 c = search needs
-
-shared-slice-read-if3 : tie.Need-shared-slice-read-if3
-shared-slice-read-if3 c = search needs
 
 returns-3 : tie.Need-returns-3
 returns-3 c = refused-kind _ _ _ _ (search needs) (search needs) (search needs)
@@ -36,12 +21,12 @@ pub refusal-at-spec : {M : Type 1} → statement M
 refusal-at-spec =
     tie.close
     (tie.spec
-    sub-if1
+    (λ c. search needs)
     returns
-    add-if2
-    shared-slice-read-if2
+    (λ c. search needs)
+    (λ c. search needs)
     returns-2
-    add-if3
-    shared-slice-read-if3
+    (λ c. search needs)
+    (λ c. search needs)
     returns-3
     returns-4)

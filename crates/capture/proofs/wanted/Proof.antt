@@ -8,9 +8,6 @@ use Rattle.capture.proofs.wanted.Tie as tie
 returns : tie.Need-returns
 returns c = wanted-first _ (search needs)
 
-big-endian-at-requires : tie.Need-big-endian-at-requires
-big-endian-at-requires c κs = search needs
-
 returns-2 : tie.Need-returns-2
 returns-2 c = wanted-order _ (search needs) (search needs)
 
@@ -25,7 +22,7 @@ wanted-spec =
     tie.close
     (tie.spec
     returns
-    big-endian-at-requires
+    (λ c κs. search needs)
     returns-2
     returns-3
     returns-4)

@@ -83,7 +83,7 @@ frameAt s i =
     refusedOr (refusalAt s i (layout .frameBytes) (layout .frameKind))
     (Frame (bigEndianAt s (i + layout .numberAt)) (i + layout .symbolsFrom) (i + layout .frameBytes))
 
--- what stands at a place, lowest refusal first: no byte left is the end, fewer than four are 6, and 7 is tested once four are there (01, under the refusal list)
+-- what stands at a place, lowest refusal first: no byte left is the end, fewer than four are 6, and 7 is tested once four are there (01, the refusal list)
 unfoldable pub readAt : List ℕ → ℕ → Read
 readAt s i =
     cond (leb (length s) i) End

@@ -35,7 +35,7 @@ FrameFound =
     → (number < 2 ^ 32) × (from ≡ layout .symbolsFrom) × (next ≡ layout .frameBytes)
     × (length (symbolsAt s from) ≡ layout .symbols) × (s ≡ frameRecord number (symbolsAt s from) ++ drop next s)
 
--- the frames of a run, whatever stands before and behind: each reads as that frame in its turn, with its number, its symbols and the place of the next
+-- the frames of a run, whatever stands before and behind: each reads as that frame in its place, with its number, its symbols and the place of the next
 abbrev pub FramesRead : Type 0
 FramesRead =
     (n : ℕ) (numbers : ℕ → ℕ) (frames : ℕ → List ℕ) (before rest : List ℕ) → ((k : ℕ) → k < n → (numbers k < 2 ^ 32) × (length (frames k) ≡ layout .symbols))

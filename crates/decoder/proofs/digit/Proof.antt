@@ -8,27 +8,6 @@ use borrow.Author.Needs.{needs}
 use Rattle.decoder.proofs.digit.Statement.{statement}
 use Rattle.decoder.proofs.digit.Tie as tie
 
-mul-entry : tie.Need-mul-entry
-mul-entry c = search needs
-
-add-entry : tie.Need-add-entry
-add-entry c = search needs
-
-entry-requires : tie.Need-entry-requires
-entry-requires c κs = search needs
-
-mul-entry-2 : tie.Need-mul-entry-2
-mul-entry-2 c = search needs
-
-add-entry-2 : tie.Need-add-entry-2
-add-entry-2 c = search needs
-
-add-entry-3 : tie.Need-add-entry-3
-add-entry-3 c = search needs
-
-entry-requires-2 : tie.Need-entry-requires-2
-entry-requires-2 c κs = search needs
-
 returns : tie.Need-returns
 returns c =
     let a = c .before .before .before .before .args in
@@ -40,11 +19,11 @@ pub digit-spec : {M : Type 1} → statement M
 digit-spec =
     tie.close
     (tie.spec
-    mul-entry
-    add-entry
-    entry-requires
-    mul-entry-2
-    add-entry-2
-    add-entry-3
-    entry-requires-2
+    (λ c. search needs)
+    (λ c. search needs)
+    (λ c κs. search needs)
+    (λ c. search needs)
+    (λ c. search needs)
+    (λ c. search needs)
+    (λ c κs. search needs)
     returns)

@@ -1,39 +1,20 @@
 -- `decoder::flag` meets its contract, case by case. Assumes nothing.
-use mathlib.Core.Path.{sym, ap}
-use Rattle.decoder.specs.definitions.Mend.{flagOf}
 use borrow.Author.Needs.{needs}
+use Rattle.bits.proofs.Cases.{at-case}
+use Rattle.decoder.specs.definitions.Mend.{flagOf}
 use Rattle.decoder.proofs.flag.Statement.{statement}
 use Rattle.decoder.proofs.flag.Tie as tie
 
-enum-told : tie.Need-enum-told
-enum-told c = search needs
-
-enum-told-2 : tie.Need-enum-told-2
-enum-told-2 c = search needs
-
-enum-told-3 : tie.Need-enum-told-3
-enum-told-3 c = search needs
-
-enum-told-4 : tie.Need-enum-told-4
-enum-told-4 c = search needs
-
-returns : tie.Need-returns
-unfolding flagOf
-returns c = sym (ap flagOf (c .enum-told .given .1))
-
-returns-2 : tie.Need-returns-2
-unfolding flagOf
-returns-2 c = sym (ap flagOf (c .enum-told2 .given .1))
-
-returns-3 : tie.Need-returns-3
-unfolding flagOf
-returns-3 c = sym (ap flagOf (c .enum-told3 .given .1))
-
-returns-4 : tie.Need-returns-4
-unfolding flagOf
-returns-4 c = sym (ap flagOf (c .enum-told4 .given .1))
-
 pub flag-spec : {M : Type 1} → statement M
+unfolding flagOf
 flag-spec =
     tie.close
-    (tie.spec enum-told enum-told-2 enum-told-3 enum-told-4 returns returns-2 returns-3 returns-4)
+    (tie.spec
+    (λ c. search needs)
+    (λ c. search needs)
+    (λ c. search needs)
+    (λ c. search needs)
+    (λ c. at-case flagOf (c .enum-told .given .1))
+    (λ c. at-case flagOf (c .enum-told2 .given .1))
+    (λ c. at-case flagOf (c .enum-told3 .given .1))
+    (λ c. at-case flagOf (c .enum-told4 .given .1)))

@@ -7,31 +7,12 @@ use borrow.Author.Needs.{needs}
 use Rattle.decoder.proofs.syndrome.Statement.{statement}
 use Rattle.decoder.proofs.syndrome.Tie as tie
 
-digit-requires : tie.Need-digit-requires
-digit-requires c κs = search needs
-
-digit-requires-2 : tie.Need-digit-requires-2
-digit-requires-2 c κs = search needs
-
-digit-requires-3 : tie.Need-digit-requires-3
-digit-requires-3 c κs = search needs
-
-digit-requires-4 : tie.Need-digit-requires-4
-digit-requires-4 c κs = search needs
-
-digit-requires-5 : tie.Need-digit-requires-5
-digit-requires-5 c κs = search needs
-
-digit-requires-6 : tie.Need-digit-requires-6
-digit-requires-6 c κs = search needs
-
-digit-requires-7 : tie.Need-digit-requires-7
-digit-requires-7 c κs = search needs
-
 returns : tie.Need-returns
 returns c =
     let a = c .before .before .before .before .before .before .before .args in
-    let e = syndrome-law (a .hi) (a .lo) (c .before .before .before .before .before .before .before .pre .1) (search needs) _ _ _ _ _ _ _ (c .before .before .before .before .before .before .digit .ensures .0) (c .before .before .before .before .before .digit2 .ensures .0) (c .before .before .before .before .digit3 .ensures .0)
+    let e = syndrome-law (a .hi) (a .lo) (c .before .before .before .before .before .before .before .pre .1) (search needs) _ _ _ _ _ _ _
+    (c .before .before .before .before .before .before .digit .ensures .0) (c .before .before .before .before .before .digit2 .ensures .0)
+    (c .before .before .before .before .digit3 .ensures .0)
     (c .before .before .before .digit4 .ensures .0) (c .before .before .digit5 .ensures .0) (c .before .digit6 .ensures .0) (c .digit7 .ensures .0) in
     (e, subst (λ (x : ℕ). x < 65536) (sym e) (remainder-lt 126 (a .hi * 2 ^ 64 + a .lo)))
 
@@ -39,11 +20,11 @@ pub syndrome-spec : {M : Type 1} → statement M
 syndrome-spec =
     tie.close
     (tie.spec
-    digit-requires
-    digit-requires-2
-    digit-requires-3
-    digit-requires-4
-    digit-requires-5
-    digit-requires-6
-    digit-requires-7
+    (λ c κs. search needs)
+    (λ c κs. search needs)
+    (λ c κs. search needs)
+    (λ c κs. search needs)
+    (λ c κs. search needs)
+    (λ c κs. search needs)
+    (λ c κs. search needs)
     returns)

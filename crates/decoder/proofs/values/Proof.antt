@@ -6,18 +6,9 @@ use borrow.Author.Needs.{needs}
 use Rattle.decoder.proofs.values.Statement.{statement}
 use Rattle.decoder.proofs.values.Tie as tie
 
-entry-requires : tie.Need-entry-requires
-entry-requires c κs = search needs
-
-add-entry : tie.Need-add-entry
-add-entry c = search needs
-
-entry-requires-2 : tie.Need-entry-requires-2
-entry-requires-2 c κs = search needs
-
 returns : tie.Need-returns
 unfolding valuesOf
 returns c = ap₂ bitXor (c .before .before .entry .ensures .0) (c .entry2 .ensures .0)
 
 pub values-spec : {M : Type 1} → statement M
-values-spec = tie.close (tie.spec entry-requires add-entry entry-requires-2 returns)
+values-spec = tie.close (tie.spec (λ c κs. search needs) (λ c. search needs) (λ c κs. search needs) returns)

@@ -1,4 +1,4 @@
--- What a word decodes to (01, BCH, "Receiving"): the first pattern of at most two bits that, turned over, makes it a code word; where there is none the
+-- What a word decodes to (01, BCH, "Receiving"): the first pattern of at most two bits that, flipped, makes it a code word; where there is none the
 -- word is flagged and passes on as received.
 -- Assumes nothing.
 use mathlib.Core.Bool.{Bool}
@@ -18,7 +18,7 @@ pairs = flatten (tabulate 126 (λ i. tabulate (125 - i) (λ k. Two i (suc i + k)
 unfoldable pub patterns : List Mend
 patterns = Clean ∷ (tabulate 126 One ++ pairs)
 
--- the word with the bits of a pattern turned over; a flagged word passes on as it is
+-- the word with the bits of a pattern flipped; a flagged word passes on as it is
 unfoldable pub mended : ℕ → Mend → ℕ
 mended w Clean = w
 mended w (One i) = flipped i w

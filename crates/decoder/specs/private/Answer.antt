@@ -19,15 +19,15 @@ Pattern (Two i j) = (i < j) × (j < 126)
 Pattern Flagged = ⊥
 
 -- the remainder of the word whose bits are the pattern's
-unfoldable pub columns : Mend → ℕ
-columns Clean = 0
-columns (One i) = column i
-columns (Two i j) = bitXor (column i) (column j)
-columns Flagged = 0
+unfoldable pub remainderOf : Mend → ℕ
+remainderOf Clean = 0
+remainderOf (One i) = column i
+remainderOf (Two i j) = bitXor (column i) (column j)
+remainderOf Flagged = 0
 
 -- m is the answer to the remainder s: a pattern that has it, or flagged where none has
 abbrev pub Answers : ℕ → Mend → Type 0
-Answers s m = (Pattern m × (columns m ≡ s)) ⊎ ((m ≡ Flagged) × ((p : Mend) → Pattern p → columns p ≡ s → ⊥))
+Answers s m = (Pattern m × (remainderOf m ≡ s)) ⊎ ((m ≡ Flagged) × ((p : Mend) → Pattern p → remainderOf p ≡ s → ⊥))
 
 -- the places of m, if it has any, are places of a word
 unfoldable pub Within : Mend → Type 0
@@ -35,13 +35,6 @@ Within Clean = Unit
 Within (One i) = i < 126
 Within (Two i j) = (i < 126) × (j < 126)
 Within Flagged = Unit
-
--- the places of a pattern's bits, the one bit's twice; beyond the word where there is no bit
-unfoldable pub placesOf : Mend → Pair
-placesOf Clean = record { low = 126; high = 126 }
-placesOf (One i) = record { low = i; high = i }
-placesOf (Two i j) = record { low = i; high = j }
-placesOf Flagged = record { low = 126; high = 126 }
 
 -- a pair of places is believed only if it has the remainder s
 unfoldable pub confirmed : ℕ → Pair → Mend

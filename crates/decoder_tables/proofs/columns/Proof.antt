@@ -3,8 +3,5 @@ use Rattle.decoder_tables.proofs.Entries.{is-columns}
 use Rattle.decoder_tables.proofs.columns.Statement.{statement}
 use Rattle.decoder_tables.proofs.columns.Tie as tie
 
-returns : tie.Need-returns
-returns c = is-columns
-
 pub columns-spec : {M : Type 1} → statement M
-columns-spec = tie.close (tie.spec returns)
+columns-spec = tie.close (tie.spec (λ c. is-columns))

@@ -3,8 +3,5 @@ use Rattle.decoder_tables.proofs.Entries.{finds}
 use Rattle.decoder_tables.proofs.places.Statement.{statement}
 use Rattle.decoder_tables.proofs.places.Tie as tie
 
-returns : tie.Need-returns
-returns c = finds
-
 pub places-spec : {M : Type 1} → statement M
-places-spec = tie.close (tie.spec returns)
+places-spec = tie.close (tie.spec (λ c. finds))

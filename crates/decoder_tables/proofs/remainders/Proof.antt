@@ -3,8 +3,5 @@ use Rattle.decoder_tables.proofs.Entries.{is-remainders}
 use Rattle.decoder_tables.proofs.remainders.Statement.{statement}
 use Rattle.decoder_tables.proofs.remainders.Tie as tie
 
-returns : tie.Need-returns
-returns c = is-remainders
-
 pub remainders-spec : {M : Type 1} → statement M
-remainders-spec = tie.close (tie.spec returns)
+remainders-spec = tie.close (tie.spec (λ c. is-remainders))

@@ -3,8 +3,5 @@ use Rattle.decoder_tables.proofs.Entries.{is-bit}
 use Rattle.decoder_tables.proofs.single_bits.Statement.{statement}
 use Rattle.decoder_tables.proofs.single_bits.Tie as tie
 
-returns : tie.Need-returns
-returns c = is-bit
-
 pub single-bits-spec : {M : Type 1} → statement M
-single-bits-spec = tie.close (tie.spec returns)
+single-bits-spec = tie.close (tie.spec (λ c. is-bit))

@@ -1,4 +1,5 @@
--- The rules of the decoder's tables: what each entry is, in terms of the code.
+-- The rules of the decoder's tables: what each entry is, in terms of the code. The crate's functions promise them to `decoder` alone; nothing that a host or an
+-- examiner is told rests on them.
 -- Assumes nothing.
 use mathlib.Core.Path.{_≡_}
 use mathlib.Core.Bool.{cond}

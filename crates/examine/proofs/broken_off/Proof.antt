@@ -3,11 +3,8 @@ use borrow.Author.Needs.{needs}
 use Rattle.examine.proofs.broken_off.Statement.{statement}
 use Rattle.examine.proofs.broken_off.Tie as tie
 
-stopped-requires : tie.Need-stopped-requires
-stopped-requires c κs = search needs
-
 returns : tie.Need-returns
 returns c = cc (c .stopped .ensures)
 
 pub broken-off-spec : {M : Type 1} → statement M
-broken-off-spec = tie.close (tie.spec stopped-requires returns)
+broken-off-spec = tie.close (tie.spec (λ c κs. search needs) returns)

@@ -5,6 +5,7 @@ use Prim.Native.Nat.{_-_, _≤_}
 use native.Mathlib.Omega.{arith}
 use borrow.Author.Needs.{needs}
 use lib.ListN.{length, take}
+use borrow.Rule.Slice.PartMut.{putMid}
 use Rattle.examine.proofs.Buffer.{before-part}
 use Rattle.examine.proofs.fill.Statement.{statement}
 use Rattle.examine.proofs.fill.Tie as tie
@@ -18,53 +19,24 @@ abbrev μ-loop : tie.MeasureT-loop
 loop-holds : tie.Need-loop-holds Inv-loop μ-loop
 loop-holds c = (omega arith, search needs, refl, refl)
 
-sub-read : tie.Need-sub-read Inv-loop μ-loop
-sub-read c = search needs
-
-part-read-start : tie.Need-part-read-start Inv-loop μ-loop
-part-read-start c = search needs
-
-part-read-end : tie.Need-part-read-end Inv-loop μ-loop
-part-read-end c = search needs
-
-read-requires : tie.Need-read-requires Inv-loop μ-loop
-read-requires c κs = search needs
-
-same-length : tie.Need-same-length Inv-loop μ-loop
-same-length c = search needs
+-- what stands before stays
+stays : (c : tie.After-read Inv-loop μ-loop)
+    → take (c .before .before .before .before .before .args .from)
+    (putMid (c .before .before .before .loop .at) (c .before .before .before .before .before .args .to - c .before .before .before .loop .at)
+    (c .before .before .before .loop .buffer) (c .read .last .1 .0))
+    ≡ take (c .before .before .before .before .before .args .from) (c .before .before .before .before .before .args .buffer .now)
+stays c =
+    let l = c .before .before .before .loop in
+    before-part _ (l .at) (c .before .before .before .before .before .args .to - l .at) _ (c .read .last .1 .0) (l .inv .0) (search needs) ∙ l .inv .3
 
 returns : tie.Need-returns Inv-loop μ-loop
-returns c = (search needs, search needs, before-part _ _ (c .before .before .before .before .before .before .before .before .args .to - c .before .before .before .before .before .before .loop .at) _ (c .before .before .before .read .last .1 .0) (c .before .before .before .before .before .before .loop .inv .0) (search needs) ∙ c .before .before .before .before .before .before .loop .inv .3)
-
-sub-count : tie.Need-sub-count Inv-loop μ-loop
-sub-count c = search needs
-
-part-count-start : tie.Need-part-count-start Inv-loop μ-loop
-part-count-start c = search needs
-
-part-count-end : tie.Need-part-count-end Inv-loop μ-loop
-part-count-end c = search needs
-
-count-requires : tie.Need-count-requires Inv-loop μ-loop
-count-requires c κs = search needs
-
-same-length-2 : tie.Need-same-length-2 Inv-loop μ-loop
-same-length-2 c = search needs
+returns c = (search needs, search needs, stays (c .before .before .before))
 
 returns-2 : tie.Need-returns-2 Inv-loop μ-loop
-returns-2 c = (search needs, search needs, before-part _ _ (c .before .before .before .before .before .before .before .before .before .before .before .before .args .to - c .before .before .before .before .before .before .before .before .before .before .loop .at) _ (c .before .before .before .before .before .before .before .read .last .1 .0) (c .before .before .before .before .before .before .before .before .before .before .loop .inv .0) (search needs) ∙ c .before .before .before .before .before .before .before .before .before .before .loop .inv .3)
-
-add-at : tie.Need-add-at Inv-loop μ-loop
-add-at c = search needs
-
-loop-less : tie.Need-loop-less Inv-loop μ-loop
-loop-less c = search needs
+returns-2 c = (search needs, search needs, stays (c .before .before .before .before .before .before .before))
 
 loop-again : tie.Need-loop-again Inv-loop μ-loop
-loop-again c = (search needs, search needs, search needs, before-part _ _ (c .before .before .before .before .before .before .before .before .before .before .before .before .args .to - c .before .before .before .before .before .before .before .before .before .before .loop .at) _ (c .before .before .before .before .before .before .before .read .last .1 .0) (c .before .before .before .before .before .before .before .before .before .before .loop .inv .0) (search needs) ∙ c .before .before .before .before .before .before .before .before .before .before .loop .inv .3)
-
-same-length-3 : tie.Need-same-length-3 Inv-loop μ-loop
-same-length-3 c = search needs
+loop-again c = (search needs, search needs, search needs, stays (c .before .before .before .before .before .before .before))
 
 returns-3 : tie.Need-returns-3 Inv-loop μ-loop
 returns-3 c = (search needs, search needs, c .before .loop .inv .3)
@@ -76,20 +48,20 @@ fill-spec =
     Inv-loop
     μ-loop
     loop-holds
-    sub-read
-    part-read-start
-    part-read-end
-    read-requires
-    same-length
+    (λ c. search needs)
+    (λ c. search needs)
+    (λ c. search needs)
+    (λ c κs. search needs)
+    (λ c. search needs)
     returns
-    sub-count
-    part-count-start
-    part-count-end
-    count-requires
-    same-length-2
+    (λ c. search needs)
+    (λ c. search needs)
+    (λ c. search needs)
+    (λ c κs. search needs)
+    (λ c. search needs)
     returns-2
-    add-at
-    loop-less
+    (λ c. search needs)
+    (λ c. search needs)
     loop-again
-    same-length-3
+    (λ c. search needs)
     returns-3)

@@ -15,53 +15,37 @@ Inv-loop fd store₀ buffer₀ run₀ going₀ store buffer run going = Reading 
 abbrev μ-loop : tie.MeasureT-loop
 μ-loop fd store₀ buffer₀ run₀ going₀ store buffer run going = remainingOf run
 
-begun-requires : tie.Need-begun-requires Inv-loop μ-loop
-begun-requires c κs = search needs
-
 loop-holds : tie.Need-loop-holds Inv-loop μ-loop
 loop-holds c = (reading-starts _ (c .begun .ensures), refl)
 
 slice-aggregate-next-piece : tie.Need-slice-aggregate-next-piece Inv-loop μ-loop
 slice-aggregate-next-piece c = sym (c .before .before .loop .inv .1)
 
-next-piece-requires : tie.Need-next-piece-requires Inv-loop μ-loop
-next-piece-requires c κs = search needs
-
-broken-off-requires : tie.Need-broken-off-requires Inv-loop μ-loop
-broken-off-requires c κs = search needs
-
 returns : tie.Need-returns Inv-loop μ-loop
 returns c = answers-failed _ _ (c .before .before .before .before .before .before .loop .inv .0) _ (c .broken-off .ensures)
-
-to-the-end-requires : tie.Need-to-the-end-requires Inv-loop μ-loop
-to-the-end-requires c κs = search needs
 
 returns-2 : tie.Need-returns-2 Inv-loop μ-loop
 returns-2 c = answers _ _ (c .before .before .before .before .before .before .before .loop .inv .0) _ (c .to-the-end .ensures)
 
-sub-step : tie.Need-sub-step Inv-loop μ-loop
-sub-step c = search needs
-
-part-step-start : tie.Need-part-step-start Inv-loop μ-loop
-part-step-start c = search needs
-
-part-step-end : tie.Need-part-step-end Inv-loop μ-loop
-part-step-end c = search needs
-
-step-requires : tie.Need-step-requires Inv-loop μ-loop
-step-requires c κs = search needs
-
-is-stopped-requires : tie.Need-is-stopped-requires Inv-loop μ-loop
-is-stopped-requires c κs = search needs
-
 loop-less : tie.Need-loop-less Inv-loop μ-loop
-loop-less c = reading-less _ _ (c .before .before .before .before .before .before .before .before .before .before .before .loop .inv .0) (c .before .before .before .before .before .before .before .before .before .before .loop-test .taken) (c .before .before .before .before .before .before .before .before .next-piece .last .1 .0) (c .before .before .before .before .before .before .before .before .next-piece .result .end) (search needs) (search needs) (c .before .before .before .before .before .before .before .before .next-piece .ensures .2) _ (c .before .step .ensures .1) (c .before .step .ensures .0)
+loop-less c =
+    reading-less _ _ (c .before .before .before .before .before .before .before .before .before .before .before .loop .inv .0)
+    (c .before .before .before .before .before .before .before .before .before .before .loop-test .taken)
+    (c .before .before .before .before .before .before .before .before .next-piece .last .1 .0)
+    (c .before .before .before .before .before .before .before .before .next-piece .result .end) (search needs) (search needs)
+    (c .before .before .before .before .before .before .before .before .next-piece .ensures .2) _ (c .before .step .ensures .1) (c .before .step .ensures .0)
 
 loop-again : tie.Need-loop-again Inv-loop μ-loop
-loop-again c = (reading-goes _ _ (c .before .before .before .before .before .before .before .before .before .before .before .loop .inv .0) (c .before .before .before .before .before .before .before .before .before .before .loop-test .taken) (c .before .before .before .before .before .before .before .before .next-piece .last .1 .0) (c .before .before .before .before .before .before .before .before .next-piece .result .end) (search needs) (search needs) (c .before .before .before .before .before .before .before .before .next-piece .ensures .2) _ (c .before .step .ensures .1) (c .before .step .ensures .0) _ (c .is-stopped .ensures), c .before .before .before .before .before .before .before .before .next-piece .ensures .0)
-
-to-the-end-requires-2 : tie.Need-to-the-end-requires-2 Inv-loop μ-loop
-to-the-end-requires-2 c κs = search needs
+loop-again c = (
+  reading-goes _ _ (c .before .before .before .before .before .before .before .before .before .before .before .loop .inv .0)
+      (c .before .before .before .before .before .before .before .before .before .before .loop-test .taken)
+      (c .before .before .before .before .before .before .before .before .next-piece .last .1 .0)
+      (c .before .before .before .before .before .before .before .before .next-piece .result .end) (search needs) (search needs)
+      (c .before .before .before .before .before .before .before .before .next-piece .ensures .2) _ (c .before .step .ensures .1) (c .before .step .ensures .0)
+      _
+      (c .is-stopped .ensures),
+  c .before .before .before .before .before .before .before .before .next-piece .ensures .0,
+)
 
 returns-3 : tie.Need-returns-3 Inv-loop μ-loop
 returns-3 c = answers _ _ (c .before .before .loop .inv .0) _ (c .to-the-end2 .ensures)
@@ -72,20 +56,20 @@ follow-spec =
     (tie.spec
     Inv-loop
     μ-loop
-    begun-requires
+    (λ c κs. search needs)
     loop-holds
     slice-aggregate-next-piece
-    next-piece-requires
-    broken-off-requires
+    (λ c κs. search needs)
+    (λ c κs. search needs)
     returns
-    to-the-end-requires
+    (λ c κs. search needs)
     returns-2
-    sub-step
-    part-step-start
-    part-step-end
-    step-requires
-    is-stopped-requires
+    (λ c. search needs)
+    (λ c. search needs)
+    (λ c. search needs)
+    (λ c κs. search needs)
+    (λ c κs. search needs)
     loop-less
     loop-again
-    to-the-end-requires-2
+    (λ c κs. search needs)
     returns-3)

@@ -4,55 +4,53 @@ use Rattle.examine.proofs.Buffer.{piece-begun, piece-ends}
 use Rattle.examine.proofs.next_piece.Statement.{statement}
 use Rattle.examine.proofs.next_piece.Tie as tie
 
-wanted-requires : tie.Need-wanted-requires
-wanted-requires c κs = search needs
-
-fill-requires : tie.Need-fill-requires
-fill-requires c κs = search needs
-
-same-length : tie.Need-same-length
-same-length c = search needs
-
 returns : tie.Need-returns
-returns c = (search needs, search needs, piece-begun _ _ _ (c .before .before .before .before .before .wanted .ensures .0) (c .before .before .before .fill .ensures .0))
-
-same-length-2 : tie.Need-same-length-2
-same-length-2 c = search needs
+returns c = (
+  search needs,
+  search needs,
+  piece-begun _ _ _ (c .before .before .before .before .before .wanted .ensures .0)
+      (c .before .before .before .fill .ensures .0),
+)
 
 returns-2 : tie.Need-returns-2
-returns-2 c = (search needs, search needs, piece-begun _ _ _ (c .before .before .before .before .before .before .before .wanted .ensures .0) (c .before .before .before .before .before .fill .ensures .0))
-
-wanted-requires-2 : tie.Need-wanted-requires-2
-wanted-requires-2 c κs = search needs
-
-same-length-3 : tie.Need-same-length-3
-same-length-3 c = search needs
+returns-2 c = (
+  search needs,
+  search needs,
+  piece-begun _ _ _ (c .before .before .before .before .before .before .before .wanted .ensures .0)
+      (c .before .before .before .before .before .fill .ensures .0),
+)
 
 returns-3 : tie.Need-returns-3
-returns-3 c = (search needs, search needs, piece-begun _ _ _ (c .before .before .before .before .before .before .before .before .before .before .wanted .ensures .0) (c .before .before .before .before .before .before .before .before .fill .ensures .0))
-
-fill-requires-2 : tie.Need-fill-requires-2
-fill-requires-2 c κs = search needs
-
-same-length-4 : tie.Need-same-length-4
-same-length-4 c = search needs
+returns-3 c = (
+  search needs,
+  search needs,
+  piece-begun _ _ _ (c .before .before .before .before .before .before .before .before .before .before .wanted .ensures .0)
+      (c .before .before .before .before .before .before .before .before .fill .ensures .0),
+)
 
 returns-4 : tie.Need-returns-4
-returns-4 c = (search needs, search needs, piece-ends _ _ _ _ _ (c .before .before .before .before .before .before .before .before .before .before .before .before .before .before .wanted .ensures .0) (c .before .before .before .before .before .wanted2 .ensures .0) (c .before .before .fill2 .ensures .2) (search needs) (c .before .before .fill2 .ensures .0))
+returns-4 c = (
+  search needs,
+  search needs,
+  piece-ends _ _ _ _ _
+      (c .before .before .before .before .before .before .before .before .before .before .before .before .before .before .wanted .ensures .0)
+      (c .before .before .before .before .before .wanted2 .ensures .0) (c .before .before .fill2 .ensures .2) (search needs)
+      (c .before .before .fill2 .ensures .0),
+)
 
 pub next-piece-spec : {M : Type 1} → statement M
 next-piece-spec =
     tie.close
     (tie.spec
-    wanted-requires
-    fill-requires
-    same-length
+    (λ c κs. search needs)
+    (λ c κs. search needs)
+    (λ c. search needs)
     returns
-    same-length-2
+    (λ c. search needs)
     returns-2
-    wanted-requires-2
-    same-length-3
+    (λ c κs. search needs)
+    (λ c. search needs)
     returns-3
-    fill-requires-2
-    same-length-4
+    (λ c κs. search needs)
+    (λ c. search needs)
     returns-4)

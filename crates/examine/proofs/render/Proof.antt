@@ -6,14 +6,11 @@ use Rattle.report.proofs.Writing.{text-written}
 use Rattle.examine.proofs.render.Statement.{statement}
 use Rattle.examine.proofs.render.Tie as tie
 
-report-requires : tie.Need-report-requires
-report-requires c κs = search needs
-
-same-length : tie.Need-same-length
-same-length c = search needs
-
 returns : tie.Need-returns
-returns c = text-written (c .before .before .before .before .before .args .run) (c .before .before .before .before .before .args .out .now) _ _ (let f = text-fits (c .before .before .before .before .before .args .run) in let p = c .before .before .before .before .before .pre in omega arith) (c .before .before .report .ensures)
+returns c =
+    text-written (c .before .before .before .before .before .args .run) (c .before .before .before .before .before .args .out .now) _ _
+    (let f = text-fits (c .before .before .before .before .before .args .run) in let p = c .before .before .before .before .before .pre in omega arith)
+    (c .before .before .report .ensures)
 
 pub render-spec : {M : Type 1} → statement M
-render-spec = tie.close (tie.spec report-requires same-length returns)
+render-spec = tie.close (tie.spec (λ c κs. search needs) (λ c. search needs) returns)

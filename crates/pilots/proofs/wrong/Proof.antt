@@ -1,16 +1,21 @@
 -- `pilots::wrong` meets its contract: the symbol is not there, or it is, and is compared. Assumes nothing.
-use mathlib.Core.Path.{sym, ap, _∙_}
+use mathlib.Core.Path.{_≡_, sym, ap, _∙_}
+use mathlib.Core.Bool.{Bool, cond, not}
 use mathlib.Core.List.{List}
 use Prim.Native.Nat.{ℕ}
 use native.Mathlib.Omega.{arith}
 use lib.ListN.{getD}
 use borrow.Author.Needs.{needs}
-use Rattle.pilots.proofs.Pilots.{pilot-missing, pilot-met, pilot-differs}
+use Rattle.pilots.proofs.Lock.{met-there, met-missing, met-other}
 use Rattle.pilots.proofs.wrong.Statement.{statement}
 use Rattle.pilots.proofs.wrong.Tie as tie
 
+-- what a test comes to, as a number
+counted : {a b : Bool} → a ≡ b → _≡_ {A = ℕ} (cond (not b) 1 0) (cond (not a) 1 0)
+counted e = sym (ap (λ (b : Bool). cond (not b) 1 0) e)
+
 returns : tie.Need-returns
-returns c = pilot-missing _ _ _ (omega arith)
+returns c = counted (met-missing _ _ _ (omega arith))
 
 mul-step : tie.Need-mul-step
 mul-step c = search needs
@@ -19,7 +24,7 @@ sub-if2 : tie.Need-sub-if2
 sub-if2 c = search needs
 
 returns-2 : tie.Need-returns-2
-returns-2 c = pilot-missing _ _ _ (omega arith)
+returns-2 c = counted (met-missing _ _ _ (omega arith))
 
 add-x : tie.Need-add-x
 add-x c = search needs
@@ -33,12 +38,12 @@ element-copy-out-y c = search needs
 returns-3 : tie.Need-returns-3
 returns-3 c =
     let i = c .before .before .before .before .before .args .i in
-    pilot-met _ _ i (omega arith) (c .if3 .taken ∙ ap (λ (l : List ℕ). getD l i 0) (c .before .before .before .before .before .pre .0))
+    counted (met-there _ _ i (omega arith) (c .if3 .taken ∙ ap (λ (l : List ℕ). getD l i 0) (c .before .before .before .before .before .pre .0)))
 
 returns-4 : tie.Need-returns-4
 returns-4 c =
     let i = c .before .before .before .before .before .args .i in
-    pilot-differs _ _ i (omega arith) (λ e. c .if3 .left (e ∙ sym (ap (λ (l : List ℕ). getD l i 0) (c .before .before .before .before .before .pre .0))))
+    counted (met-other _ _ i (omega arith) (λ e. c .if3 .left (e ∙ sym (ap (λ (l : List ℕ). getD l i 0) (c .before .before .before .before .before .pre .0)))))
 
 pub wrong-spec : {M : Type 1} → statement M
 wrong-spec = tie.close (tie.spec returns mul-step sub-if2 returns-2 add-x shared-slice-read-x element-copy-out-y returns-3 returns-4)

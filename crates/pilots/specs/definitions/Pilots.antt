@@ -1,4 +1,4 @@
--- Pilots and lock (01, pilots and refusal 5; 000, 7.1, tables 4 and 5).
+-- Pilots and lock (01, pilots and refusal 5; 000, 7.1, table 4; table 5 is in Table5).
 -- Assumes nothing.
 use mathlib.Core.Bool.{Bool, not, _&&_}
 use mathlib.Core.List.{List}

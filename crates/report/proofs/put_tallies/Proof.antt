@@ -6,52 +6,28 @@ use borrow.Author.Needs.{needs}
 use Rattle.report.proofs.put_tallies.Statement.{statement}
 use Rattle.report.proofs.put_tallies.Tie as tie
 
-slice-aggregate-put-line : tie.Need-slice-aggregate-put-line
-slice-aggregate-put-line c = search needs
-
-put-line-requires : tie.Need-put-line-requires
-put-line-requires c κs = search needs
-
-slice-aggregate-put-line-2 : tie.Need-slice-aggregate-put-line-2
-slice-aggregate-put-line-2 c = search needs
-
-put-line-requires-2 : tie.Need-put-line-requires-2
-put-line-requires-2 c κs = search needs
-
-slice-aggregate-put-line-3 : tie.Need-slice-aggregate-put-line-3
-slice-aggregate-put-line-3 c = search needs
-
-put-line-requires-3 : tie.Need-put-line-requires-3
-put-line-requires-3 c κs = search needs
-
-slice-aggregate-put-line-4 : tie.Need-slice-aggregate-put-line-4
-slice-aggregate-put-line-4 c = search needs
-
-put-line-requires-4 : tie.Need-put-line-requires-4
-put-line-requires-4 c κs = search needs
-
-same-length : tie.Need-same-length
-same-length c = search needs
-
 returns : tie.Need-returns
 unfolding tallyLines tabulate
 returns c =
     let fourth = c .before .before in
     let third = fourth .before .before .before .before .before in
-    let second = third .before .before .before .before .before in
-    (wrote-more (second .before .before .before .before .before .put-line .ensures .0) (wrote-more (second .put-line2 .ensures .0) (wrote-more (third .put-line3 .ensures .0) (fourth .put-line4 .ensures .0))), search needs)
+    let second = third .before .before .before .before .before in (
+      wrote-more (second .before .before .before .before .before .put-line .ensures .0)
+          (wrote-more (second .put-line2 .ensures .0) (wrote-more (third .put-line3 .ensures .0) (fourth .put-line4 .ensures .0))),
+      search needs,
+    )
 
 pub put-tallies-spec : {M : Type 1} → statement M
 put-tallies-spec =
     tie.close
     (tie.spec
-    slice-aggregate-put-line
-    put-line-requires
-    slice-aggregate-put-line-2
-    put-line-requires-2
-    slice-aggregate-put-line-3
-    put-line-requires-3
-    slice-aggregate-put-line-4
-    put-line-requires-4
-    same-length
+    (λ c. search needs)
+    (λ c κs. search needs)
+    (λ c. search needs)
+    (λ c κs. search needs)
+    (λ c. search needs)
+    (λ c κs. search needs)
+    (λ c. search needs)
+    (λ c κs. search needs)
+    (λ c. search needs)
     returns)

@@ -36,7 +36,7 @@ verdictName NotMeasured = ascii "NOT MEASURED"
 verdictName Pass = ascii "PASS"
 verdictName Fail = ascii "FAIL"
 
--- the seven lines of figureLines: the frames asked for, the account as it stands
+-- the seven lines of figures: the frames asked for, the account as it stands
 unfoldable pub figureLines : Run → List ℕ
 figureLines r =
     line (ascii "asked ") (r .asked)

@@ -1,4 +1,4 @@
--- What a writer leaves in a buffer, and the report in the parts in which it is written.
+-- What a writer leaves in a buffer, and the report in the parts in which it is written. No promise to a caller rests on a definition here.
 -- Assumes nothing.
 use mathlib.Core.Path.{_≡_}
 use mathlib.Core.List.{List, _++_}

@@ -1,4 +1,5 @@
 -- The report by example: the one that 01 prints (account and verdict), and the one of a capture with no order first. And what stands in it for a number.
+-- `proofs/Examples` and `proofs/Decimal` prove them.
 -- Assumes nothing.
 use mathlib.Core.Path.{_≡_}
 use mathlib.Core.Logic.{_≢_}

@@ -28,7 +28,8 @@ add-t16 c = search needs
 returns : tie.Need-returns
 returns c =
     let a = c .before .args in
-    rotate-law (a .n) (a .hi) (a .lo) _ _ (c .before .pre .1) (c .before .pre .0) (search needs) (c .rotate-halves .ensures .0 .0) (c .rotate-halves .ensures .0 .1)
+    let h = c .rotate-halves .ensures .0 in
+    rotate-law (a .n) (a .hi) (a .lo) _ _ (c .before .pre .1) (c .before .pre .0) (search needs) (h .0) (h .1)
 
 pub rotate-spec : {M : Type 1} → statement M
 rotate-spec =

@@ -1,4 +1,4 @@
--- The turning of a word's information, and of every word of a row.
+-- A word's information rotated, and every word of a row. No promise to a caller rests on a definition here.
 -- Assumes nothing.
 use mathlib.Core.Path.{_≡_}
 use mathlib.Core.Logic.{_≢_}

@@ -1,6 +1,6 @@
 -- `symbols::block` meets its contract: v has the four numbers of the first j symbols in its fields. Assumes nothing.
 use mathlib.Core.Path.{_≡_}
-use Prim.Native.Nat.{_+_, _*_, _-_, _≤_}
+use Prim.Native.Nat.{ℕ, _+_, _*_, _-_, _≤_}
 use native.Mathlib.Omega.{arith}
 use lib.ListN.{drop}
 use Rattle.symbols.specs.private.Numbers.{fieldsOf}
@@ -14,10 +14,13 @@ Inv-loop t s at l v₀ j₀ v j = (j ≤ 8) × (v ≡ fieldsOf j l (drop at s))
 abbrev μ-loop : tie.MeasureT-loop
 μ-loop t s at l v₀ j₀ v j = 8 - j
 
+-- the numbers of the first n symbols, at a place in the loop
+abbrev fieldsAt : tie.At-loop Inv-loop μ-loop → ℕ → ℕ
+fieldsAt a n = fieldsOf n (a .before .before .args .l) (drop (a .before .before .args .at) (a .before .before .args .s .now))
+
 -- a step's sum is the numbers of one symbol more
 turn : (c : tie.After-dibits Inv-loop μ-loop)
-    → c .before .before .before .loop .v * 4 + c .dibits .result
-    ≡ fieldsOf (c .before .before .before .loop .j + 1) (c .before .before .before .before .before .args .l) (drop (c .before .before .before .before .before .args .at) (c .before .before .before .before .before .args .s .now))
+    → c .before .before .before .loop .v * 4 + c .dibits .result ≡ fieldsAt (c .before .before .before) (c .before .before .before .loop .j + 1)
 turn c =
     let a = c .before .before .before .before .before .args in
     fields-step (a .s .now) (a .at) (a .l) _ _ _ (c .before .before .before .loop .inv .1) (c .dibits .ensures)

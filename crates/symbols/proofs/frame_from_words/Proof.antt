@@ -12,8 +12,8 @@ use Rattle.symbols.proofs.frame_from_words.Tie as tie
 parts-requires : tie.Need-parts-requires
 parts-requires c κs = tt
 
-table-requires : tie.Need-table-requires
-table-requires c κs = tt
+pilots-requires : tie.Need-pilots-requires
+pilots-requires c κs = tt
 
 shuffle-words-requires : tie.Need-shuffle-words-requires
 shuffle-words-requires c κs = tt
@@ -32,7 +32,7 @@ frame-from-words-spec =
     tie.close
     (tie.spec
     parts-requires
-    table-requires
+    pilots-requires
     shuffle-words-requires
     slice-aggregate-map-words
     map-words-requires

@@ -37,8 +37,9 @@ loop-less c = omega arith
 
 loop-again : tie.Need-loop-again Inv-loop μ-loop
 loop-again c =
-    let a = c .before .before .before .before .before .args in
-    (omega arith, omega arith, quad-step (a .s .now) (a .at) (a .l) _ _ _ _ (c .before .before .before .loop .inv .2) (c .before .block .ensures) (c .join .ensures))
+    let at = c .before .before .before in
+    let a = at .before .before .args in
+    (omega arith, omega arith, quad-step (a .s .now) (a .at) (a .l) _ _ _ _ (at .loop .inv .2) (c .before .block .ensures) (c .join .ensures))
 
 returns : tie.Need-returns Inv-loop μ-loop
 returns c = let a = c .before .before .before .args in quad-done (a .s .now) (a .at) (a .l) _ _ (omega arith) (c .before .loop .inv .2)

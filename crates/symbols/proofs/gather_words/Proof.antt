@@ -20,12 +20,6 @@ mul-l c = omega arith
 add-l : tie.Need-add-l Inv-loop μ-loop
 add-l c = omega arith
 
-mul-l-2 : tie.Need-mul-l-2 Inv-loop μ-loop
-mul-l-2 c = omega arith
-
-add-l-2 : tie.Need-add-l-2 Inv-loop μ-loop
-add-l-2 c = omega arith
-
 mul-gather : tie.Need-mul-gather Inv-loop μ-loop
 mul-gather c = omega arith
 
@@ -67,8 +61,6 @@ gather-words-spec =
     loop-holds
     mul-l
     add-l
-    mul-l-2
-    add-l-2
     mul-gather
     gather-requires
     mul-o

@@ -3,30 +3,29 @@ use mathlib.Core.Path.{_∙_}
 use Prim.Native.Nat.{_%_}
 use native.Mathlib.Omega.{arith}
 use Rattle.symbols.proofs.Symbols.{parts-at}
-use borrow.Author.Needs.{needs}
 use Rattle.symbols.proofs.parts.Statement.{statement}
 use Rattle.symbols.proofs.parts.Tie as tie
 
 mul-k : tie.Need-mul-k
-mul-k c = search needs
+mul-k c = omega arith
 
 mul-k-2 : tie.Need-mul-k-2
-mul-k-2 c = search needs
+mul-k-2 c = omega arith
 
 add-k : tie.Need-add-k
-add-k c = search needs
+add-k c = omega arith
 
 add-k-2 : tie.Need-add-k-2
-add-k-2 c = search needs
+add-k-2 c = omega arith
 
 mul-wide32 : tie.Need-mul-wide32
-mul-wide32 c = search needs
+mul-wide32 c = omega arith
 
 element-copy-out-wide32 : tie.Need-element-copy-out-wide32
-element-copy-out-wide32 c = search needs
+element-copy-out-wide32 c = omega arith
 
 wide32-requires : tie.Need-wide32-requires
-wide32-requires c κs = search needs
+wide32-requires c κs = tt
 
 returns : tie.Need-returns
 returns c =

@@ -1,42 +1,42 @@
 -- `symbols::quad_at` meets its contract: the code is the definition. Assumes nothing.
 use mathlib.Core.Path.{refl}
+use native.Mathlib.Omega.{arith}
 use Rattle.symbols.specs.private.Numbers.{quadAt}
-use borrow.Author.Needs.{needs}
 use Rattle.symbols.proofs.quad_at.Statement.{statement}
 use Rattle.symbols.proofs.quad_at.Tie as tie
 
 mul-a : tie.Need-mul-a
-mul-a c = search needs
+mul-a c = omega arith
 
 shared-slice-read-a : tie.Need-shared-slice-read-a
-shared-slice-read-a c = search needs
+shared-slice-read-a c = omega arith
 
 add-b : tie.Need-add-b
-add-b c = search needs
+add-b c = omega arith
 
 mul-b : tie.Need-mul-b
-mul-b c = search needs
+mul-b c = omega arith
 
 shared-slice-read-b : tie.Need-shared-slice-read-b
-shared-slice-read-b c = search needs
+shared-slice-read-b c = omega arith
 
 add-c : tie.Need-add-c
-add-c c = search needs
+add-c c = omega arith
 
 mul-c : tie.Need-mul-c
-mul-c c = search needs
+mul-c c = omega arith
 
 shared-slice-read-c : tie.Need-shared-slice-read-c
-shared-slice-read-c c = search needs
+shared-slice-read-c c = omega arith
 
 add-d : tie.Need-add-d
-add-d c = search needs
+add-d c = omega arith
 
 mul-d : tie.Need-mul-d
-mul-d c = search needs
+mul-d c = omega arith
 
 shared-slice-read-d : tie.Need-shared-slice-read-d
-shared-slice-read-d c = search needs
+shared-slice-read-d c = omega arith
 
 returns : tie.Need-returns
 unfolding quadAt

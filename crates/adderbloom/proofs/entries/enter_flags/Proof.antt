@@ -8,30 +8,19 @@ use Rattle.adderbloom.proofs.entries.enter_flags.Tie as tie
 returns : tie.Need-returns
 returns c = let x = c .before .before .args in flags-refused (x .a) (x .got) (x .flags .now) (c .if1 .taken)
 
-slice-aggregate-copy : tie.Need-slice-aggregate-copy
-slice-aggregate-copy c = search needs
-
-copy-requires : tie.Need-copy-requires
-copy-requires c κs = search needs
-
-tallies-of-requires : tie.Need-tallies-of-requires
-tallies-of-requires c κs = search needs
-
-enter-requires : tie.Need-enter-requires
-enter-requires c κs = search needs
-
 returns-2 : tie.Need-returns-2
 returns-2 c =
     let x = c .before .before .before .before .before .before .before .before .args in
-    flags-taken (x .a) (x .got) (x .flags .now) (c .before .before .before .before .before .before .if1 .left) _ _ (c .before .before .before .before .copy .ensures) refl _ (c .before .tallies-of .ensures) _ (c .enter .ensures)
+    flags-taken (x .a) (x .got) (x .flags .now) (c .before .before .before .before .before .before .if1 .left) _ _
+    (c .before .before .before .before .copy .ensures) refl _ (c .before .tallies-of .ensures) _ (c .enter .ensures)
 
 pub enter-flags-spec : {M : Type 1} → statement M
 enter-flags-spec =
     tie.close
     (tie.spec
     returns
-    slice-aggregate-copy
-    copy-requires
-    tallies-of-requires
-    enter-requires
+    (λ c. search needs)
+    (λ c κs. search needs)
+    (λ c κs. search needs)
+    (λ c κs. search needs)
     returns-2)

@@ -1,4 +1,5 @@
--- `adderbloom::entries::lr800_account_enter` meets its contract: a walk of its MIR, by hand. The locals are allocated and freed here, and what the body does between is `Lent`'s. All that the proof knows of `enter_flags` is that it meets its contract.
+-- `adderbloom::entries::lr800_account_enter` meets its contract: a walk of its MIR, by hand. The locals are allocated and freed here, and what the body
+-- does between is `ByReference`'s. All that the proof knows of `enter_flags` is that it meets its contract.
 -- Assumes nothing.
 use mathlib.Core.Path.{_≡_, refl}
 use Prim.Native.Nat.{ℕ, _<_, _^_}
@@ -59,7 +60,8 @@ module _ {M : Type 1} (𝓤 : URA M) (H : Heap 𝓤) (A : Atoms 𝓤) (mem : Mem
   abbrev Enter : Contract 𝓤
   Enter = tripleOf 𝓤 H A by-value.signature (by-value.spec 𝓤 H A mem run)
 
-  module _ (W : Given 𝓤 H A) (C : Calls 𝓤 H) (Λ : Loops 𝓤 H) (fm : FmC 𝓤 H (W .laws) C) (known : Triple 𝓤 (C #enter-flags) Enter) (κ κ₁ : Lft) (q q₁ : Share) (a : RefT Account) (got : ℕ) (flags : RefT (List ℕ)) where
+  module _ (W : Given 𝓤 H A) (C : Calls 𝓤 H) (Λ : Loops 𝓤 H) (fm : FmC 𝓤 H (W .laws) C) (known : Triple 𝓤 (C #enter-flags) Enter) (κ κ₁ : Lft) (q q₁ : Share)
+      (a : RefT Account) (got : ℕ) (flags : RefT (List ℕ)) where
     -- its arguments, and their machine values
     abbrev x : Denots (Rs κ₁)
     x = (a .now, (got, (flags, tt)))
@@ -78,29 +80,43 @@ module _ {M : Type 1} (𝓤 : URA M) (H : Heap 𝓤) (A : Atoms 𝓤) (mem : Mem
     to = (((κ₁, tt), (q₁, tt), tt, x, at), tt)
 
     walk : got < 2 ^ 32 → Room u8 (length (flags .now)) → (Kf : Val → SProp 𝓤)
-        → ((r : Entry) → r .refusal < 2 ^ 32 → r ≡ flagsEntered (a .now) got (now flags) → ent 𝓤 (⋆ 𝓤 H A (Held 𝓤 an-account κ q a (r .account) (raw tokens ∷ []))) (Kf (vint w32 (r .refusal))))
-        → ent 𝓤 (⋆ 𝓤 H A (Held 𝓤 an-account κ q a (a .now) (raw tokens ∷ ‵ (owns (Others κ₁) (x .1) (at .1)) ∷ []))) (WpFn 𝓤 H C Λ code.function (vptr (a .ptr .0) (a .ptr .1) ∷ vint w32 got ∷ v ∷ []) Kf)
+        → ((r : Entry) → r .refusal < 2 ^ 32 → r ≡ flagsEntered (a .now) got (now flags)
+        → ent 𝓤 (⋆ 𝓤 H A (Held 𝓤 an-account κ q a (r .account) (raw tokens ∷ []))) (Kf (vint w32 (r .refusal))))
+        → ent 𝓤 (⋆ 𝓤 H A (Held 𝓤 an-account κ q a (a .now) (raw tokens ∷ ‵ (owns (Others κ₁) (x .1) (at .1)) ∷ [])))
+        (WpFn 𝓤 H C Λ code.function (vptr (a .ptr .0) (a .ptr .1) ∷ vint w32 got ∷ v ∷ []) Kf)
     walk fits room Kf ends =
         qed W (Held 𝓤 an-account κ q a (a .now) (raw tokens ∷ ‵ (owns (Others κ₁) (x .1) (at .1)) ∷ [])) ∵
         enter ! C Λ code.function (vptr (a .ptr .0) (a .ptr .1) ∷ vint w32 got ∷ v ∷ []) _ $
         alloc1 ! (λ l₀. alloc1 ! (λ l₁. alloc1 ! (λ l₂. alloc1 ! (λ l₃. alloc1 ! (λ l₄. alloc1 ! (λ l₅. alloc0 ! $ params1 ! $
-        pass1 ! (init ! 8 refl (tt, tt)) $ pass1 ! (init ! 6 refl (tt, record { fits = fits })) $ pass1 ! (init ! 4 refl (tt, (tt, (record { fits = room .0 }, tt)))) $ pass0 ! $
+        pass1 ! (init ! 8 refl (tt, tt)) $ pass1 ! (init ! 6 refl (tt, record { fits = fits })) $
+        pass1 ! (init ! 4 refl (tt, (tt, (record { fits = room .0 }, tt)))) $ pass0 ! $
         -- [obs; the borrow; the token; _1; room for _5; …; room for _4; …; _3; …; _2; …; …; room for _0; …; the other token; the number and the flags]
         move ! (12 ∷ 13 ∷ 14 ∷ 8 ∷ 0 ∷ []) $ copied-out ! an-account (a .now) refl (λ is.
-        move ! (16 ∷ []) $ owned ! (row (an-account .type)) (Is (row (an-account .type))) (LL.makes (an-account .type) (an-account .facts) 𝓤 H A) (a .now) _ is $ fjoin ! $
+        move ! (16 ∷ []) $ owned ! (row (an-account .type)) (Is (row (an-account .type))) (LL.makes (an-account .type) (an-account .facts) 𝓤 H A)
+        (a .now) _ is $ fjoin ! $
         move ! (16 ∷ 0 ∷ []) $ use2 W (raw (Enter .pre to)) (asking 𝓤 H A W tokens (Rs κ₁) x at) $
         move ! (0 ∷ 7 ∷ 1 ∷ 2 ∷ 3 ∷ 4 ∷ 14 ∷ []) $
-        answered ! fm an-entry (a .now) refl tokens (λ r. ex 𝓤 (λ ws. sep 𝓤 (sem 𝓤 H A (lasts by-value.ended (κ₁, tt) x ws)) (fact 𝓤 (r ≡ flagsEntered (a .now) got (now flags))))) Enter known to (λ v. id⊢ 𝓤 _)
-        (and-then ! (load ! (from ! (stop !)) (look ! 7 refl)) (and-then ! (load ! (from ! (stop !)) (look ! 12 refl)) (and-then ! (load ! (from ! (stop !)) (look ! 10 refl)) (no-more !)))) (λ r is-r.
-        forget ! 8 refl $ forget ! 11 refl $ forget ! 13 refl $ move ! (3 ∷ 16 ∷ 4 ∷ 15 ∷ 13 ∷ 14 ∷ 11 ∷ 12 ∷ 5 ∷ 10 ∷ 8 ∷ 9 ∷ []) $ free1 ! $ free1 ! $ free1 ! $ free1 ! $ free1 ! $ free1 ! $ free0 ! $
-        move ! (4 ∷ []) $ hears ! (λ ws. sem 𝓤 H A (lasts by-value.ended (κ₁, tt) x ws)) (r ≡ flagsEntered (a .now) got (now flags)) (λ e. by ! (ends r (an-entry .fits r is-r) e))))))))))
+        answered ! fm an-entry (a .now) refl tokens
+        (λ r. ex 𝓤 (λ ws. sep 𝓤 (sem 𝓤 H A (lasts by-value.ended (κ₁, tt) x ws)) (fact 𝓤 (r ≡ flagsEntered (a .now) got (now flags))))) Enter known to
+        (λ v. id⊢ 𝓤 _)
+        (and-then ! (load ! (from ! (stop !)) (look ! 7 refl))
+        (and-then ! (load ! (from ! (stop !)) (look ! 12 refl)) (and-then ! (load ! (from ! (stop !)) (look ! 10 refl)) (no-more !)))) (λ r is-r.
+        forget ! 8 refl $ forget ! 11 refl $ forget ! 13 refl $ move ! (3 ∷ 16 ∷ 4 ∷ 15 ∷ 13 ∷ 14 ∷ 11 ∷ 12 ∷ 5 ∷ 10 ∷ 8 ∷ 9 ∷ []) $ free1 ! $ free1 ! $
+        free1 ! $ free1 ! $ free1 ! $ free1 ! $ free0 ! $
+        move ! (4 ∷ []) $ hears ! (λ ws. sem 𝓤 H A (lasts by-value.ended (κ₁, tt) x ws)) (r ≡ flagsEntered (a .now) got (now flags))
+        (λ e. by ! (ends r (an-entry .fits r is-r) e))))))))))
 
-lr800-account-enter-meets : {M : Type 1} (𝓤 : URA M) (H : Heap 𝓤) (A : Atoms 𝓤) → Given 𝓤 H A → (mem : Memory → SProp 𝓤) (run : Routine → Fun 𝓤) (𝓣 : Tables 𝓤 H)
+lr800-account-enter-meets : {M : Type 1} (𝓤 : URA M) (H : Heap 𝓤) (A : Atoms 𝓤) → Given 𝓤 H A
+    → (mem : Memory → SProp 𝓤) (run : Routine → Fun 𝓤) (𝓣 : Tables 𝓤 H)
     → Triple 𝓤 (𝓣 .C #enter-flags) (Enter 𝓤 H A mem run)
     → Meets 𝓤 H A lr800-account-enter.signature (WpFn 𝓤 H (𝓣 .C) (𝓣 .Λ) code.function) (lr800-account-enter.spec 𝓤 H A mem run)
-lr800-account-enter-meets 𝓤 H A W mem run 𝓣 known = lent-alone 𝓤 H A W an-account 1 (plain (λ _. u32) ∷ shrSliceOf (1 ∷ []) tt (plain (λ _. u8)) ∷ []) (lr800-account-enter.ended .kept .1) ((λ κs x f. refl), ((λ κs x f. refl), tt)) (λ κs x. (tt, (tt, tt))) u32 (uint-makes 𝓤 H A W w32) (lr800-account-enter.clauses 𝓤 H A mem run)
-    (WpFn 𝓤 H (𝓣 .C) (𝓣 .Λ) code.function) (WpFn-mono 𝓤 H (W .laws) 𝓣 code.function) (λ κs. (uint-vals w32, (slice-vals, tt))) (λ κs. (uint-tells w32, (shr-slice-tells (named 1) (κs .1 .0) u8, tt)))
-    (λ κs qs a x g are Kf ends. walk 𝓤 H A mem run W (𝓣 .C) (𝓣 .Λ) (fmOf 𝓤 H (W .laws) 𝓣) known (κs .0) (κs .1 .0) (qs .0) (qs .1 .0) a (x .0) (x .1 .0) (are .0 .1) (are .1 .0 .0 .1) Kf (λ r fits e. ends (r .refusal) _ (r .account) (refl, fits) (factI 𝓤 _ (emp 𝓤) e)))
+lr800-account-enter-meets 𝓤 H A W mem run 𝓣 known =
+    lent-alone 𝓤 H A W an-account 1 (plain (λ _. u32) ∷ shrSliceOf (1 ∷ []) tt (plain (λ _. u8)) ∷ []) (lr800-account-enter.ended .kept .1)
+    ((λ κs x f. refl), ((λ κs x f. refl), tt)) (λ κs x. (tt, (tt, tt))) u32 (uint-makes 𝓤 H A W w32) (lr800-account-enter.clauses 𝓤 H A mem run)
+    (WpFn 𝓤 H (𝓣 .C) (𝓣 .Λ) code.function) (WpFn-mono 𝓤 H (W .laws) 𝓣 code.function) (λ κs. (uint-vals w32, (slice-vals, tt)))
+    (λ κs. (uint-tells w32, (shr-slice-tells (named 1) (κs .1 .0) u8, tt)))
+    (λ κs qs a x g are Kf ends. walk 𝓤 H A mem run W (𝓣 .C) (𝓣 .Λ) (fmOf 𝓤 H (W .laws) 𝓣) known (κs .0) (κs .1 .0) (qs .0) (qs .1 .0) a (x .0) (x .1 .0)
+    (are .0 .1) (are .1 .0 .0 .1) Kf (λ r fits e. ends (r .refusal) _ (r .account) (refl, fits) (factI 𝓤 _ (emp 𝓤) e)))
 
 pub lr800-account-enter-spec : {M : Type 1} → stated.statement M
 unfolding code.routine tablesOf
@@ -108,4 +124,5 @@ lr800-account-enter-spec 𝓤 H 𝓜 𝓖 𝓡 =
     entered 𝓤 H (tripleOf 𝓤 H (𝓖 .A) lr800-account-enter.signature (lr800-account-enter.spec 𝓤 H (𝓖 .A) (𝓜 .mem) (𝓡 .run)))
     (tables 𝓤 H 𝓜 𝓡 code.env .C) (tables 𝓤 H 𝓜 𝓡 code.env .Λ) #lr800-account-enter code.function (code.unfolded 𝓤 H 𝓜 𝓡)
     (lr800-account-enter-meets 𝓤 H (𝓖 .A) (givenOf 𝓤 H 𝓜 𝓖) (𝓜 .mem) (𝓡 .run) (tablesOf 𝓤 H 𝓜 (tables 𝓤 H 𝓜 𝓡 code.env))
-    (cited 𝓤 H (Enter 𝓤 H (𝓖 .A) (𝓜 .mem) (𝓡 .run)) 𝓜 𝓡 code.env #enter-flags by-value-def.routine code.calls-adderbloom·entries·enter-flags (by-value-thm.met 𝓤 H 𝓜 𝓖 𝓡)))
+    (cited 𝓤 H (Enter 𝓤 H (𝓖 .A) (𝓜 .mem) (𝓡 .run)) 𝓜 𝓡 code.env #enter-flags by-value-def.routine code.calls-adderbloom·entries·enter-flags
+    (by-value-thm.met 𝓤 H 𝓜 𝓖 𝓡)))

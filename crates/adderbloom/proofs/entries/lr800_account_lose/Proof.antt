@@ -1,4 +1,5 @@
--- `adderbloom::entries::lr800_account_lose` meets its contract: a walk of its MIR, by hand. The locals are allocated and freed here, and what the body does between is `Lent`'s. All that the proof knows of `lose` is that it meets its contract.
+-- `adderbloom::entries::lr800_account_lose` meets its contract: a walk of its MIR, by hand. The locals are allocated and freed here, and what the body
+-- does between is `ByReference`'s. All that the proof knows of `lose` is that it meets its contract.
 -- Assumes nothing.
 use mathlib.Core.Path.{_≡_, refl}
 use Prim.Native.Nat.{ℕ, _<_, _^_}
@@ -53,7 +54,8 @@ module _ {M : Type 1} (𝓤 : URA M) (H : Heap 𝓤) (A : Atoms 𝓤) (mem : Mem
   abbrev Lose : Contract 𝓤
   Lose = tripleOf 𝓤 H A by-value.signature (by-value.spec 𝓤 H A mem run)
 
-  module _ (W : Given 𝓤 H A) (C : Calls 𝓤 H) (Λ : Loops 𝓤 H) (fm : FmC 𝓤 H (W .laws) C) (known : Triple 𝓤 (C #lose) Lose) (κ : Lft) (q : Share) (a : RefT Account) (got : ℕ) where
+  module _ (W : Given 𝓤 H A) (C : Calls 𝓤 H) (Λ : Loops 𝓤 H) (fm : FmC 𝓤 H (W .laws) C) (known : Triple 𝓤 (C #lose) Lose) (κ : Lft) (q : Share)
+      (a : RefT Account) (got : ℕ) where
     -- its arguments, and their machine values
     abbrev x : Denots Rs
     x = (a .now, (got, tt))
@@ -62,8 +64,10 @@ module _ {M : Type 1} (𝓤 : URA M) (H : Heap 𝓤) (A : Atoms 𝓤) (mem : Mem
     at = (machine an-account (a .now) ∷ [], (vint w32 got ∷ [], tt))
 
     walk : got < 2 ^ 32 → (Kf : Val → SProp 𝓤)
-        → ((r : Entry) → r .refusal < 2 ^ 32 → r ≡ lossEntered (a .now) got → ent 𝓤 (⋆ 𝓤 H A (Held 𝓤 an-account κ q a (r .account) (raw (emp 𝓤) ∷ []))) (Kf (vint w32 (r .refusal))))
-        → ent 𝓤 (⋆ 𝓤 H A (Held 𝓤 an-account κ q a (a .now) (raw (emp 𝓤) ∷ ‵ (owns (u32 ∷ []) (got, tt) (vint w32 got ∷ [], tt)) ∷ []))) (WpFn 𝓤 H C Λ code.function (vptr (a .ptr .0) (a .ptr .1) ∷ vint w32 got ∷ []) Kf)
+        → ((r : Entry) → r .refusal < 2 ^ 32 → r ≡ lossEntered (a .now) got → ent 𝓤 (⋆ 𝓤 H A (Held 𝓤 an-account κ q a (r .account) (raw (emp 𝓤) ∷ [])))
+        (Kf (vint w32 (r .refusal))))
+        → ent 𝓤 (⋆ 𝓤 H A (Held 𝓤 an-account κ q a (a .now) (raw (emp 𝓤) ∷ ‵ (owns (u32 ∷ []) (got, tt) (vint w32 got ∷ [], tt)) ∷ [])))
+        (WpFn 𝓤 H C Λ code.function (vptr (a .ptr .0) (a .ptr .1) ∷ vint w32 got ∷ []) Kf)
     walk fits Kf ends =
         qed W (Held 𝓤 an-account κ q a (a .now) (raw (emp 𝓤) ∷ ‵ (owns (u32 ∷ []) (got, tt) (vint w32 got ∷ [], tt)) ∷ [])) ∵
         enter ! C Λ code.function (vptr (a .ptr .0) (a .ptr .1) ∷ vint w32 got ∷ []) _ $
@@ -71,20 +75,28 @@ module _ {M : Type 1} (𝓤 : URA M) (H : Heap 𝓤) (A : Atoms 𝓤) (mem : Mem
         pass1 ! (init ! 6 refl (tt, tt)) $ pass1 ! (init ! 4 refl (tt, record { fits = fits })) $ pass0 ! $
         -- [obs; the borrow; the token; _1; room for _4; …; room for _3; …; _2; …; …; room for _0; …; the tokens; the number]
         move ! (10 ∷ 11 ∷ 12 ∷ 6 ∷ 0 ∷ []) $ copied-out ! an-account (a .now) refl (λ is.
-        move ! (14 ∷ []) $ owned ! (row (an-account .type)) (Is (row (an-account .type))) (LL.makes (an-account .type) (an-account .facts) 𝓤 H A) (a .now) _ is $ fjoin ! $
+        move ! (14 ∷ []) $ owned ! (row (an-account .type)) (Is (row (an-account .type))) (LL.makes (an-account .type) (an-account .facts) 𝓤 H A)
+        (a .now) _ is $ fjoin ! $
         move ! (14 ∷ 0 ∷ []) $ use2 W (raw (Lose .pre ((tt, tt, tt, x, at), tt))) (asking 𝓤 H A W (emp 𝓤) Rs x at) $
         move ! (0 ∷ 7 ∷ 1 ∷ 2 ∷ 3 ∷ 4 ∷ 12 ∷ []) $
-        answered ! fm an-entry (a .now) refl (emp 𝓤) (λ r. ex 𝓤 (λ ws. sep 𝓤 (sem 𝓤 H A (lasts by-value.ended tt x ws)) (fact 𝓤 (r ≡ lossEntered (a .now) got)))) Lose known ((tt, tt, tt, x, at), tt) (λ v. id⊢ 𝓤 _)
+        answered ! fm an-entry (a .now) refl (emp 𝓤)
+        (λ r. ex 𝓤 (λ ws. sep 𝓤 (sem 𝓤 H A (lasts by-value.ended tt x ws)) (fact 𝓤 (r ≡ lossEntered (a .now) got)))) Lose known ((tt, tt, tt, x, at), tt)
+        (λ v. id⊢ 𝓤 _)
         (and-then ! (load ! (from ! (stop !)) (look ! 7 refl)) (and-then ! (load ! (from ! (stop !)) (look ! 10 refl)) (no-more !))) (λ r is-r.
-        forget ! 8 refl $ forget ! 11 refl $ move ! (3 ∷ 14 ∷ 4 ∷ 13 ∷ 11 ∷ 12 ∷ 5 ∷ 10 ∷ 8 ∷ 9 ∷ []) $ free1 ! $ free1 ! $ free1 ! $ free1 ! $ free1 ! $ free0 ! $
-        move ! (4 ∷ []) $ hears ! (λ ws. sem 𝓤 H A (lasts by-value.ended tt x ws)) (r ≡ lossEntered (a .now) got) (λ e. by ! (ends r (an-entry .fits r is-r) e)))))))))
+        forget ! 8 refl $ forget ! 11 refl $ move ! (3 ∷ 14 ∷ 4 ∷ 13 ∷ 11 ∷ 12 ∷ 5 ∷ 10 ∷ 8 ∷ 9 ∷ []) $ free1 ! $ free1 ! $ free1 ! $ free1 ! $ free1 ! $
+        free0 ! $
+        move ! (4 ∷ []) $ hears ! (λ ws. sem 𝓤 H A (lasts by-value.ended tt x ws)) (r ≡ lossEntered (a .now) got)
+        (λ e. by ! (ends r (an-entry .fits r is-r) e)))))))))
 
 lr800-account-lose-meets : {M : Type 1} (𝓤 : URA M) (H : Heap 𝓤) (A : Atoms 𝓤) → Given 𝓤 H A → (mem : Memory → SProp 𝓤) (run : Routine → Fun 𝓤) (𝓣 : Tables 𝓤 H)
     → Triple 𝓤 (𝓣 .C #lose) (Lose 𝓤 H A mem run)
     → Meets 𝓤 H A lr800-account-lose.signature (WpFn 𝓤 H (𝓣 .C) (𝓣 .Λ) code.function) (lr800-account-lose.spec 𝓤 H A mem run)
-lr800-account-lose-meets 𝓤 H A W mem run 𝓣 known = lent-alone 𝓤 H A W an-account 0 (plain (λ _. u32) ∷ []) (lr800-account-lose.ended .kept .1) ((λ κs x f. refl), tt) (λ κs x. (tt, tt)) u32 (uint-makes 𝓤 H A W w32) (lr800-account-lose.clauses 𝓤 H A mem run)
+lr800-account-lose-meets 𝓤 H A W mem run 𝓣 known =
+    lent-alone 𝓤 H A W an-account 0 (plain (λ _. u32) ∷ []) (lr800-account-lose.ended .kept .1) ((λ κs x f. refl), tt) (λ κs x. (tt, tt)) u32
+    (uint-makes 𝓤 H A W w32) (lr800-account-lose.clauses 𝓤 H A mem run)
     (WpFn 𝓤 H (𝓣 .C) (𝓣 .Λ) code.function) (WpFn-mono 𝓤 H (W .laws) 𝓣 code.function) (λ κs. (uint-vals w32, tt)) (λ κs. (uint-tells w32, tt))
-    (λ κs qs a x g are Kf ends. walk 𝓤 H A mem run W (𝓣 .C) (𝓣 .Λ) (fmOf 𝓤 H (W .laws) 𝓣) known (κs .0) (qs .0) a (x .0) (are .0 .1) Kf (λ r fits e. ends (r .refusal) _ (r .account) (refl, fits) (factI 𝓤 _ (emp 𝓤) e)))
+    (λ κs qs a x g are Kf ends. walk 𝓤 H A mem run W (𝓣 .C) (𝓣 .Λ) (fmOf 𝓤 H (W .laws) 𝓣) known (κs .0) (qs .0) a (x .0) (are .0 .1) Kf
+    (λ r fits e. ends (r .refusal) _ (r .account) (refl, fits) (factI 𝓤 _ (emp 𝓤) e)))
 
 pub lr800-account-lose-spec : {M : Type 1} → stated.statement M
 unfolding code.routine tablesOf

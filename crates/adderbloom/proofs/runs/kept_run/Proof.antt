@@ -4,11 +4,8 @@ use borrow.Author.Needs.{needs}
 use Rattle.adderbloom.proofs.runs.kept_run.Statement.{statement}
 use Rattle.adderbloom.proofs.runs.kept_run.Tie as tie
 
-phase-number-requires : tie.Need-phase-number-requires
-phase-number-requires c κs = search needs
-
 returns : tie.Need-returns
 returns c = rw (c .phase-number .ensures) refl
 
 pub kept-run-spec : {M : Type 1} → statement M
-kept-run-spec = tie.close (tie.spec phase-number-requires returns)
+kept-run-spec = tie.close (tie.spec (λ c κs. search needs) returns)

@@ -1,4 +1,5 @@
--- `adderbloom::runs::lr800_run_open` meets its contract: a walk of its MIR, by hand. The locals are allocated and freed here, and what the body does between is `Lent`'s. All that the proof knows of `opened` is that it meets its contract.
+-- `adderbloom::runs::lr800_run_open` meets its contract: a walk of its MIR, by hand. The locals are allocated and freed here, and what the body
+-- does between is `ByReference`'s. All that the proof knows of `opened` is that it meets its contract.
 -- Assumes nothing.
 use mathlib.Core.Path.{_≡_, refl}
 use mathlib.Core.List.{[], _∷_}
@@ -42,16 +43,20 @@ module _ {M : Type 1} (𝓤 : URA M) (H : Heap 𝓤) (A : Atoms 𝓤) (mem : Mem
   abbrev Opened : Contract 𝓤
   Opened = tripleOf 𝓤 H A by-value.signature (by-value.spec 𝓤 H A mem run)
 
-  module _ (W : Given 𝓤 H A) (C : Calls 𝓤 H) (Λ : Loops 𝓤 H) (fm : FmC 𝓤 H (W .laws) C) (known : Triple 𝓤 (C #opened) Opened) (κ : Lft) (q : Share) (a : RefT Run) where
+  module _ (W : Given 𝓤 H A) (C : Calls 𝓤 H) (Λ : Loops 𝓤 H) (fm : FmC 𝓤 H (W .laws) C) (known : Triple 𝓤 (C #opened) Opened) (κ : Lft) (q : Share)
+      (a : RefT Run) where
     walk : (Kf : Val → SProp 𝓤) → ((r : Run) → r ≡ keptRun begun → ent 𝓤 (⋆ 𝓤 H A (Held 𝓤 a-run κ q a r (raw (emp 𝓤) ∷ []))) (Kf vunit))
-        → ent 𝓤 (⋆ 𝓤 H A (Held 𝓤 a-run κ q a (a .now) (raw (emp 𝓤) ∷ ‵ (owns [] tt tt) ∷ []))) (WpFn 𝓤 H C Λ code.function (vptr (a .ptr .0) (a .ptr .1) ∷ []) Kf)
+        → ent 𝓤 (⋆ 𝓤 H A (Held 𝓤 a-run κ q a (a .now) (raw (emp 𝓤) ∷ ‵ (owns [] tt tt) ∷ [])))
+        (WpFn 𝓤 H C Λ code.function (vptr (a .ptr .0) (a .ptr .1) ∷ []) Kf)
     walk Kf ends =
         qed W (Held 𝓤 a-run κ q a (a .now) (raw (emp 𝓤) ∷ ‵ (owns [] tt tt) ∷ [])) ∵
         enter ! C Λ code.function (vptr (a .ptr .0) (a .ptr .1) ∷ []) _ $
         alloc1 ! (λ l₀. alloc1 ! (λ l₁. alloc1 ! (λ l₂. alloc0 ! $ params1 ! $ pass1 ! (init ! 2 refl (tt, tt)) $ pass0 ! $
         -- [what `opened` asks; room for _2; …; _1; …; room for _0; …; obs; the borrow; the token]
-        move ! (9 ∷ 10 ∷ []) $ use2 W (raw (Opened .pre ((tt, tt, tt, tt, tt), tt))) (asking 𝓤 H A W (emp 𝓤) [] tt tt) $ move ! (0 ∷ 1 ∷ 7 ∷ 8 ∷ 9 ∷ 3 ∷ 5 ∷ []) $
-        placed ! fm a-run (a .now) refl (emp 𝓤) (λ r. ex 𝓤 (λ ws. sep 𝓤 (sem 𝓤 H A (lasts by-value.ended tt tt ws)) (fact 𝓤 (r ≡ keptRun begun)))) Opened known ((tt, tt, tt, tt, tt), tt) (λ v. id⊢ 𝓤 _)
+        move ! (9 ∷ 10 ∷ []) $ use2 W (raw (Opened .pre ((tt, tt, tt, tt, tt), tt))) (asking 𝓤 H A W (emp 𝓤) [] tt tt) $
+        move ! (0 ∷ 1 ∷ 7 ∷ 8 ∷ 9 ∷ 3 ∷ 5 ∷ []) $
+        placed ! fm a-run (a .now) refl (emp 𝓤) (λ r. ex 𝓤 (λ ws. sep 𝓤 (sem 𝓤 H A (lasts by-value.ended tt tt ws)) (fact 𝓤 (r ≡ keptRun begun)))) Opened known
+        ((tt, tt, tt, tt, tt), tt) (λ v. id⊢ 𝓤 _)
         (no-more !) (λ r.
         move ! (3 ∷ 10 ∷ 4 ∷ 9 ∷ 5 ∷ 8 ∷ []) $ free1 ! $ free1 ! $ free1 ! $ free0 ! $
         move ! (4 ∷ []) $ hears ! (λ ws. sem 𝓤 H A (lasts by-value.ended tt tt ws)) (r ≡ keptRun begun) (λ e. by ! (ends r e))))))
@@ -59,9 +64,11 @@ module _ {M : Type 1} (𝓤 : URA M) (H : Heap 𝓤) (A : Atoms 𝓤) (mem : Mem
 lr800-run-open-meets : {M : Type 1} (𝓤 : URA M) (H : Heap 𝓤) (A : Atoms 𝓤) → Given 𝓤 H A → (mem : Memory → SProp 𝓤) (run : Routine → Fun 𝓤) (𝓣 : Tables 𝓤 H)
     → Triple 𝓤 (𝓣 .C #opened) (Opened 𝓤 H A mem run)
     → Meets 𝓤 H A lr800-run-open.signature (WpFn 𝓤 H (𝓣 .C) (𝓣 .Λ) code.function) (lr800-run-open.spec 𝓤 H A mem run)
-lr800-run-open-meets 𝓤 H A W mem run 𝓣 known = lent-alone 𝓤 H A W a-run 0 [] (lr800-run-open.ended .kept .1) tt (λ κs x. tt) unit (nothing-makes 𝓤 H A W) (lr800-run-open.clauses 𝓤 H A mem run)
+lr800-run-open-meets 𝓤 H A W mem run 𝓣 known =
+    lent-alone 𝓤 H A W a-run 0 [] (lr800-run-open.ended .kept .1) tt (λ κs x. tt) unit (nothing-makes 𝓤 H A W) (lr800-run-open.clauses 𝓤 H A mem run)
     (WpFn 𝓤 H (𝓣 .C) (𝓣 .Λ) code.function) (WpFn-mono 𝓤 H (W .laws) 𝓣 code.function) (λ κs. tt) (λ κs. tt)
-    (λ κs qs a x g are Kf ends. walk 𝓤 H A mem run W (𝓣 .C) (𝓣 .Λ) (fmOf 𝓤 H (W .laws) 𝓣) known (κs .0) (qs .0) a Kf (λ r e. ends tt _ r refl (factI 𝓤 _ (emp 𝓤) e)))
+    (λ κs qs a x g are Kf ends. walk 𝓤 H A mem run W (𝓣 .C) (𝓣 .Λ) (fmOf 𝓤 H (W .laws) 𝓣) known (κs .0) (qs .0) a Kf
+    (λ r e. ends tt _ r refl (factI 𝓤 _ (emp 𝓤) e)))
 
 pub lr800-run-open-spec : {M : Type 1} → stated.statement M
 unfolding code.routine tablesOf

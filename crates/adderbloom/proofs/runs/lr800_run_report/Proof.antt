@@ -6,15 +6,6 @@ use borrow.Author.Needs.{needs}
 use Rattle.adderbloom.proofs.runs.lr800_run_report.Statement.{statement}
 use Rattle.adderbloom.proofs.runs.lr800_run_report.Tie as tie
 
-run-of-requires : tie.Need-run-of-requires
-run-of-requires c κs = search needs
-
-report-requires : tie.Need-report-requires
-report-requires c κs = search needs
-
-same-length : tie.Need-same-length
-same-length c = search needs
-
 returns : tie.Need-returns
 returns c =
     let x = c .before .before .before .before .before .before .args in
@@ -23,4 +14,4 @@ returns c =
     (told .0 ∙ ap (λ (b : Run). writtenBytes b (x .text .now)) e, told .1 ∙ ap (λ (b : Run). written b (x .text .now)) e)
 
 pub lr800-run-report-spec : {M : Type 1} → statement M
-lr800-run-report-spec = tie.close (tie.spec run-of-requires report-requires same-length returns)
+lr800-run-report-spec = tie.close (tie.spec (λ c κs. search needs) (λ c κs. search needs) (λ c. search needs) returns)

@@ -1,4 +1,5 @@
--- `adderbloom::runs::lr800_run_step` meets its contract: a walk of its MIR, by hand. The locals are allocated and freed here, and what the body does between is `Lent`'s. All that the proof knows of `stepped` is that it meets its contract.
+-- `adderbloom::runs::lr800_run_step` meets its contract: a walk of its MIR, by hand. The locals are allocated and freed here, and what the body
+-- does between is `ByReference`'s. All that the proof knows of `stepped` is that it meets its contract.
 -- Assumes nothing.
 use mathlib.Core.Path.{_≡_, refl}
 use Prim.Native.Nat.{ℕ, _<_, _^_}
@@ -62,7 +63,8 @@ module _ {M : Type 1} (𝓤 : URA M) (H : Heap 𝓤) (A : Atoms 𝓤) (mem : Mem
   abbrev Stepped : Contract 𝓤
   Stepped = tripleOf 𝓤 H A by-value.signature (by-value.spec 𝓤 H A mem run)
 
-  module _ (W : Given 𝓤 H A) (C : Calls 𝓤 H) (Λ : Loops 𝓤 H) (fm : FmC 𝓤 H (W .laws) C) (known : Triple 𝓤 (C #stepped) Stepped) (κ κ₁ κ₂ : Lft) (q q₁ q₂ : Share) (a : RefT Run) (store piece : RefT (List ℕ)) where
+  module _ (W : Given 𝓤 H A) (C : Calls 𝓤 H) (Λ : Loops 𝓤 H) (fm : FmC 𝓤 H (W .laws) C) (known : Triple 𝓤 (C #stepped) Stepped) (κ κ₁ κ₂ : Lft)
+      (q q₁ q₂ : Share) (a : RefT Run) (store piece : RefT (List ℕ)) where
     -- its arguments, and their machine values
     abbrev x : Denots (Rs κ₁ κ₂)
     x = (a .now, (store, (piece, tt)))
@@ -89,26 +91,37 @@ module _ {M : Type 1} (𝓤 : URA M) (H : Heap 𝓤) (A : Atoms 𝓤) (mem : Mem
 
     walk : Room u8 (length (store .now)) → Room u8 (length (piece .now)) → (Kf : Val → SProp 𝓤)
         → ((r : Answer) (last : List ℕ) → r .refusal < 2 ^ 32 → Ensures r last → length last ≡ length (store .now)
-        → ent 𝓤 (⋆ 𝓤 H A (Held 𝓤 a-run κ q a (r .run) (raw tokens ∷ ‵ (fsep (finally u8 (store .name) last) (fsep ftrue ftrue)) ∷ []))) (Kf (vint w32 (r .refusal))))
-        → ent 𝓤 (⋆ 𝓤 H A (Held 𝓤 a-run κ q a (a .now) (raw tokens ∷ ‵ (owns (Others κ₁ κ₂) (x .1) (at .1)) ∷ []))) (WpFn 𝓤 H C Λ code.function (vptr (a .ptr .0) (a .ptr .1) ∷ vs ∷ vp ∷ []) Kf)
+        → ent 𝓤 (⋆ 𝓤 H A (Held 𝓤 a-run κ q a (r .run) (raw tokens ∷ ‵ (fsep (finally u8 (store .name) last) (fsep ftrue ftrue)) ∷ [])))
+        (Kf (vint w32 (r .refusal))))
+        → ent 𝓤 (⋆ 𝓤 H A (Held 𝓤 a-run κ q a (a .now) (raw tokens ∷ ‵ (owns (Others κ₁ κ₂) (x .1) (at .1)) ∷ [])))
+        (WpFn 𝓤 H C Λ code.function (vptr (a .ptr .0) (a .ptr .1) ∷ vs ∷ vp ∷ []) Kf)
     walk s-room p-room Kf ends =
         qed W (Held 𝓤 a-run κ q a (a .now) (raw tokens ∷ ‵ (owns (Others κ₁ κ₂) (x .1) (at .1)) ∷ [])) ∵
         enter ! C Λ code.function (vptr (a .ptr .0) (a .ptr .1) ∷ vs ∷ vp ∷ []) _ $
         alloc1 ! (λ l₀. alloc1 ! (λ l₁. alloc1 ! (λ l₂. alloc1 ! (λ l₃. alloc1 ! (λ l₄. alloc1 ! (λ l₅. alloc1 ! (λ l₆. alloc1 ! (λ l₇. alloc0 ! $ params1 ! $
-        pass1 ! (init ! 12 refl (tt, tt)) $ pass1 ! (init ! 10 refl (tt, (tt, (record { fits = s-room .0 }, tt)))) $ pass1 ! (init ! 8 refl (tt, (tt, (record { fits = p-room .0 }, tt)))) $ pass0 ! $
-        -- [obs; the borrow; the token; _1; room for _5; room for _7; …; room for _6; …; …; room for _4; …; _3; …; _2; …; …; room for _0; …; the other tokens; the slices]
+        pass1 ! (init ! 12 refl (tt, tt)) $ pass1 ! (init ! 10 refl (tt, (tt, (record { fits = s-room .0 }, tt)))) $
+        pass1 ! (init ! 8 refl (tt, (tt, (record { fits = p-room .0 }, tt)))) $ pass0 ! $
+        -- [obs; the borrow; the token; _1; room for _5; room for _7; …; room for _6; …; …; room for _4; …; _3; …; _2; …; …; room for _0; …;
+        -- the other tokens; the slices]
         move ! (16 ∷ 17 ∷ 18 ∷ 12 ∷ 4 ∷ []) $ copied-out ! a-run (a .now) refl (λ is.
         assigns ! (addr ! (from ! (fld ! refl (hop ! (look-in ! 14 (sub ! 0 refl (whole !))) (stop !))))) (from ! (stop !)) (init ! 7 refl (tt, tt)) $
-        assigns ! (agg ! (and-then ! (load ! (from ! (stop !)) (look ! 7 refl)) (and-then ! (load ! (from ! (fld ! refl (stop !))) (look-in ! 14 (sub ! 1 refl (whole !)))) (no-more !)))) (from ! (stop !)) (init ! 5 refl (tt, (tt, (record { fits = s-room .0 }, tt)))) $
+        assigns ! (agg ! (and-then ! (load ! (from ! (stop !)) (look ! 7 refl))
+        (and-then ! (load ! (from ! (fld ! refl (stop !))) (look-in ! 14 (sub ! 1 refl (whole !)))) (no-more !)))) (from ! (stop !))
+        (init ! 5 refl (tt, (tt, (record { fits = s-room .0 }, tt)))) $
         move ! (20 ∷ []) $ owned ! (row (a-run .type)) (Is (row (a-run .type))) (LL.makes (a-run .type) (a-run .facts) 𝓤 H A) (a .now) _ is $ fjoin ! $
         move ! (20 ∷ 0 ∷ []) $ use2 W (raw (Stepped .pre to)) (asking 𝓤 H A W tokens (Rs κ₁ κ₂) x at) $
         move ! (0 ∷ 11 ∷ 1 ∷ 2 ∷ 3 ∷ 4 ∷ 18 ∷ []) $
-        answered ! fm a-step (a .now) refl tokens (λ r. ex 𝓤 (λ ws. sep 𝓤 (sem 𝓤 H A (lasts by-value.ended (κ₁, (κ₂, tt)) x ws)) (fact 𝓤 (Ensures r (ws .1 .0))))) Stepped known to (λ v. id⊢ 𝓤 _)
-        (and-then ! (load ! (from ! (stop !)) (look ! 7 refl)) (and-then ! (load ! (from ! (stop !)) (look ! 8 refl)) (and-then ! (load ! (from ! (stop !)) (look ! 14 refl)) (no-more !)))) (λ r is-r.
+        answered ! fm a-step (a .now) refl tokens
+        (λ r. ex 𝓤 (λ ws. sep 𝓤 (sem 𝓤 H A (lasts by-value.ended (κ₁, (κ₂, tt)) x ws)) (fact 𝓤 (Ensures r (ws .1 .0))))) Stepped known to (λ v. id⊢ 𝓤 _)
+        (and-then ! (load ! (from ! (stop !)) (look ! 7 refl))
+        (and-then ! (load ! (from ! (stop !)) (look ! 8 refl)) (and-then ! (load ! (from ! (stop !)) (look ! 14 refl)) (no-more !)))) (λ r is-r.
         forget ! 8 refl $ forget ! 9 refl $ forget ! 11 refl $ forget ! 15 refl $ forget ! 17 refl $
-        move ! (3 ∷ 20 ∷ 4 ∷ 19 ∷ 17 ∷ 18 ∷ 15 ∷ 16 ∷ 5 ∷ 14 ∷ 8 ∷ 13 ∷ 11 ∷ 12 ∷ 9 ∷ 10 ∷ []) $ free1 ! $ free1 ! $ free1 ! $ free1 ! $ free1 ! $ free1 ! $ free1 ! $ free1 ! $ free0 ! $
+        move ! (3 ∷ 20 ∷ 4 ∷ 19 ∷ 17 ∷ 18 ∷ 15 ∷ 16 ∷ 5 ∷ 14 ∷ 8 ∷ 13 ∷ 11 ∷ 12 ∷ 9 ∷ 10 ∷ []) $ free1 ! $ free1 ! $ free1 ! $ free1 ! $ free1 ! $ free1 ! $
+        free1 ! $ free1 ! $ free0 ! $
         -- [obs; the borrow; the token; the other tokens; what is ensured, at some last bytes of the store]
-        move ! (4 ∷ []) $ use1 W (some (λ (ws : Unit {0} × (List ℕ × (Unit {0} × Unit {0}))). ‵ (lasts by-value.ended (κ₁, (κ₂, tt)) x ws) ⊛ raw (fact 𝓤 (Ensures r (ws .1 .0))))) (id⊢ 𝓤 _) $ pick ! (λ ws.
+        move ! (4 ∷ []) $
+        use1 W (some (λ (ws : Unit {0} × (List ℕ × (Unit {0} × Unit {0}))). ‵ (lasts by-value.ended (κ₁, (κ₂, tt)) x ws) ⊛ raw (fact 𝓤 (Ensures r (ws .1 .0)))))
+        (id⊢ 𝓤 _) $ pick ! (λ ws.
         split ! $ move ! (1 ∷ []) $ heard ! (Ensures r (ws .1 .0)) (λ e. fsplit ! $ move ! (1 ∷ []) $ fsplit ! $ fsplit ! $ move ! (1 ∷ []) $ feqL ! (λ l.
         keep ! (0 ∷ 3 ∷ 4 ∷ 5 ∷ 6 ∷ []) $ nothing ! $ nothing ! $ fjoin ! $ move ! (1 ∷ 0 ∷ []) $ fjoin ! $ move ! (1 ∷ 2 ∷ 3 ∷ 4 ∷ 0 ∷ []) $
         by ! (ends r (ws .1 .0) (a-step .fits r is-r) e l))))))))))))))
@@ -116,11 +129,15 @@ module _ {M : Type 1} (𝓤 : URA M) (H : Heap 𝓤) (A : Atoms 𝓤) (mem : Mem
 lr800-run-step-meets : {M : Type 1} (𝓤 : URA M) (H : Heap 𝓤) (A : Atoms 𝓤) → Given 𝓤 H A → (mem : Memory → SProp 𝓤) (run : Routine → Fun 𝓤) (𝓣 : Tables 𝓤 H)
     → Triple 𝓤 (𝓣 .C #stepped) (Stepped 𝓤 H A mem run)
     → Meets 𝓤 H A lr800-run-step.signature (WpFn 𝓤 H (𝓣 .C) (𝓣 .Λ) code.function) (lr800-run-step.spec 𝓤 H A mem run)
-lr800-run-step-meets 𝓤 H A W mem run 𝓣 known = lent-meets 𝓤 H A W a-run 2 (mutSliceOf (1 ∷ []) tt (plain (λ _. u8)) ∷ shrSliceOf (2 ∷ []) tt (plain (λ _. u8)) ∷ []) (lr800-run-step.ended .kept .1)
+lr800-run-step-meets 𝓤 H A W mem run 𝓣 known =
+    lent-meets 𝓤 H A W a-run 2 (mutSliceOf (1 ∷ []) tt (plain (λ _. u8)) ∷ shrSliceOf (2 ∷ []) tt (plain (λ _. u8)) ∷ []) (lr800-run-step.ended .kept .1)
     (gave-slice (1 ∷ []) tt (plain (λ _. u8)), (stay-dropped (shrSliceOf (2 ∷ []) tt (plain (λ _. u8))) yes, tt))
-    (goes-gave-slice 𝓤 H A W 3 1 tt (plain (λ _. u8)), (goes-dropped 𝓤 H A W 3 (shrSliceOf (2 ∷ []) tt (plain (λ _. u8))) yes (λ κs x f. refl), tt)) u32 (uint-makes 𝓤 H A W w32) (lr800-run-step.clauses 𝓤 H A mem run)
-    (WpFn 𝓤 H (𝓣 .C) (𝓣 .Λ) code.function) (WpFn-mono 𝓤 H (W .laws) 𝓣 code.function) (λ κs. (slice-vals, (slice-vals, tt))) (λ κs. (mut-slice-tells (named 1) (κs .1 .0) u8, (shr-slice-tells (named 2) (κs .1 .1 .0) u8, tt)))
-    (λ κs qs a x g are Kf ends. walk 𝓤 H A mem run W (𝓣 .C) (𝓣 .Λ) (fmOf 𝓤 H (W .laws) 𝓣) known (κs .0) (κs .1 .0) (κs .1 .1 .0) (qs .0) (qs .1 .0) (qs .1 .1 .0) a (x .0) (x .1 .0) (are .0 .0 .1) (are .1 .0 .0 .1) Kf
+    (goes-gave-slice 𝓤 H A W 3 1 tt (plain (λ _. u8)), (goes-dropped 𝓤 H A W 3 (shrSliceOf (2 ∷ []) tt (plain (λ _. u8))) yes (λ κs x f. refl), tt)) u32
+    (uint-makes 𝓤 H A W w32) (lr800-run-step.clauses 𝓤 H A mem run)
+    (WpFn 𝓤 H (𝓣 .C) (𝓣 .Λ) code.function) (WpFn-mono 𝓤 H (W .laws) 𝓣 code.function) (λ κs. (slice-vals, (slice-vals, tt)))
+    (λ κs. (mut-slice-tells (named 1) (κs .1 .0) u8, (shr-slice-tells (named 2) (κs .1 .1 .0) u8, tt)))
+    (λ κs qs a x g are Kf ends. walk 𝓤 H A mem run W (𝓣 .C) (𝓣 .Λ) (fmOf 𝓤 H (W .laws) 𝓣) known (κs .0) (κs .1 .0) (κs .1 .1 .0) (qs .0) (qs .1 .0)
+    (qs .1 .1 .0) a (x .0) (x .1 .0) (are .0 .0 .1) (are .1 .0 .0 .1) Kf
     (λ r last fits e l. ends (r .refusal) _ (r .run) (last, (tt, tt)) (l, (tt, tt)) (refl, fits) (factI 𝓤 _ (emp 𝓤) e)))
 
 pub lr800-run-step-spec : {M : Type 1} → stated.statement M
@@ -129,4 +146,5 @@ lr800-run-step-spec 𝓤 H 𝓜 𝓖 𝓡 =
     entered 𝓤 H (tripleOf 𝓤 H (𝓖 .A) lr800-run-step.signature (lr800-run-step.spec 𝓤 H (𝓖 .A) (𝓜 .mem) (𝓡 .run)))
     (tables 𝓤 H 𝓜 𝓡 code.env .C) (tables 𝓤 H 𝓜 𝓡 code.env .Λ) #lr800-run-step code.function (code.unfolded 𝓤 H 𝓜 𝓡)
     (lr800-run-step-meets 𝓤 H (𝓖 .A) (givenOf 𝓤 H 𝓜 𝓖) (𝓜 .mem) (𝓡 .run) (tablesOf 𝓤 H 𝓜 (tables 𝓤 H 𝓜 𝓡 code.env))
-    (cited 𝓤 H (Stepped 𝓤 H (𝓖 .A) (𝓜 .mem) (𝓡 .run)) 𝓜 𝓡 code.env #stepped by-value-def.routine code.calls-adderbloom·runs·stepped (by-value-thm.met 𝓤 H 𝓜 𝓖 𝓡)))
+    (cited 𝓤 H (Stepped 𝓤 H (𝓖 .A) (𝓜 .mem) (𝓡 .run)) 𝓜 𝓡 code.env #stepped by-value-def.routine code.calls-adderbloom·runs·stepped
+    (by-value-thm.met 𝓤 H 𝓜 𝓖 𝓡)))

@@ -6,18 +6,9 @@ use borrow.Author.Needs.{needs}
 use Rattle.adderbloom.proofs.runs.lr800_run_verdict.Statement.{statement}
 use Rattle.adderbloom.proofs.runs.lr800_run_verdict.Tie as tie
 
-run-of-requires : tie.Need-run-of-requires
-run-of-requires c κs = search needs
-
-verdict-of-requires : tie.Need-verdict-of-requires
-verdict-of-requires c κs = search needs
-
-verdict-number-requires : tie.Need-verdict-number-requires
-verdict-number-requires c κs = search needs
-
 returns : tie.Need-returns
 returns c = c .verdict-number .ensures ∙ ap verdictNumber (c .before .verdict-of .ensures ∙ ap verdictOf (c .before .before .run-of .ensures))
 
 pub lr800-run-verdict-spec : {M : Type 1} → statement M
 lr800-run-verdict-spec =
-    tie.close (tie.spec run-of-requires verdict-of-requires verdict-number-requires returns)
+    tie.close (tie.spec (λ c κs. search needs) (λ c κs. search needs) (λ c κs. search needs) returns)

@@ -4,11 +4,8 @@ use borrow.Author.Needs.{needs}
 use Rattle.adderbloom.proofs.runs.run_of.Statement.{statement}
 use Rattle.adderbloom.proofs.runs.run_of.Tie as tie
 
-phase-of-requires : tie.Need-phase-of-requires
-phase-of-requires c κs = search needs
-
 returns : tie.Need-returns
 returns c = rw (c .phase-of .ensures) refl
 
 pub run-of-spec : {M : Type 1} → statement M
-run-of-spec = tie.close (tie.spec phase-of-requires returns)
+run-of-spec = tie.close (tie.spec (λ c κs. search needs) returns)

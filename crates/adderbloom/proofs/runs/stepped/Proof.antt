@@ -8,43 +8,26 @@ use Rattle.adderbloom.proofs.runs.stepped.Tie as tie
 returns : tie.Need-returns
 returns c = let x = c .before .before .before .args in step-refused (x .r) (x .store .now) (x .piece .now) (c .if1 .taken)
 
-slice-aggregate-copy : tie.Need-slice-aggregate-copy
-slice-aggregate-copy c = search needs
-
-copy-requires : tie.Need-copy-requires
-copy-requires c κs = search needs
-
-run-of-requires : tie.Need-run-of-requires
-run-of-requires c κs = search needs
-
-step-requires : tie.Need-step-requires
-step-requires c κs = search needs
-
-put-store-requires : tie.Need-put-store-requires
-put-store-requires c κs = search needs
-
-kept-run-requires : tie.Need-kept-run-requires
-kept-run-requires c κs = search needs
-
-same-length : tie.Need-same-length
-same-length c = search needs
-
 returns-2 : tie.Need-returns-2
 returns-2 c =
     let x = c .before .before .before .before .before .before .before .before .before .before .before .before .before .before .before .before .before .args in
     let put = c .before .before .before .before .put-store .ensures in
-    step-done (x .r) (x .store .now) (x .piece .now) (c .before .before .before .before .before .before .before .before .before .before .before .before .before .before .if1 .left) _ _ (c .before .before .before .before .before .before .before .before .before .before .before .copy .ensures) refl _ (c .before .before .before .before .before .before .before .before .before .run-of .ensures) _ _ (c .before .before .before .before .before .before .before .step .ensures) (put .1) _ _ (c .kept-run .ensures) (put .0)
+    step-done (x .r) (x .store .now) (x .piece .now)
+    (c .before .before .before .before .before .before .before .before .before .before .before .before .before .before .if1 .left) _ _
+    (c .before .before .before .before .before .before .before .before .before .before .before .copy .ensures) refl _
+    (c .before .before .before .before .before .before .before .before .before .run-of .ensures) _ _
+    (c .before .before .before .before .before .before .before .step .ensures) (put .1) _ _ (c .kept-run .ensures) (put .0)
 
 pub stepped-spec : {M : Type 1} → statement M
 stepped-spec =
     tie.close
     (tie.spec
     returns
-    slice-aggregate-copy
-    copy-requires
-    run-of-requires
-    step-requires
-    put-store-requires
-    kept-run-requires
-    same-length
+    (λ c. search needs)
+    (λ c κs. search needs)
+    (λ c κs. search needs)
+    (λ c κs. search needs)
+    (λ c κs. search needs)
+    (λ c κs. search needs)
+    (λ c. search needs)
     returns-2)

@@ -1,21 +1,19 @@
--- Pilots: table 5 is what table 4 produces, only outer levels occur; and what a pilot's test comes to.
+-- Table 5 is what table 4 produces, and only outer levels occur in it.
 -- Assumes nothing.
 use mathlib.Core.Path.{_≡_, refl}
-use mathlib.Core.Bool.{Bool, cond, not}
+use mathlib.Core.Bool.{Bool}
 use mathlib.Core.Logic.{_⊎_, inl, inr}
-use mathlib.Core.List.{List}
-use Prim.Native.Nat.{ℕ, zero, suc, _+_, _-_, _*_, _/_, _%_, _^_, _<_, _≤_}
+use Prim.Native.Nat.{ℕ, zero, suc, _-_, _/_, _%_, _^_, _<_}
 use native.Mathlib.Omega.{arith}
-use lib.ListN.{length, getD}
+use lib.ListN.{getD}
 use lib.Dec.{T, eqb, eqb→eq}
 use lib.IntN.{pos, negsuc}
-use borrow.Author.Tests.{le-ltb, lt-ltb, eq-eqb, ne-eqb}
 use Rattle.bits.specs.definitions.Bits.{tabulate}
 use Rattle.bits.proofs.Table.{each, range-rule}
 use Rattle.pilots.specs.declared.Level.the-variants as level
 use Rattle.pilots.specs.definitions.Levels.{levelOf}
 use Rattle.pilots.specs.definitions.Table5.{pilots}
-use Rattle.pilots.specs.definitions.Pilots.{registerNext, leaves, labelsOf, pilotOf, met}
+use Rattle.pilots.specs.definitions.Pilots.{registerNext, leaves, labelsOf, pilotOf}
 
 -- table 5 is what the polynomial and the seeds of table 4 produce
 pub tables-agree : pilots ≡ tabulate 96 pilotOf
@@ -46,16 +44,3 @@ outer k t h l =
     go (suc zero) b e = absurd (omega arith)
     go (suc (suc zero)) b e = inr refl
     go (suc (suc (suc n))) b e = absurd (omega arith)
-
-module _ (s : List ℕ) (o i : ℕ) where
-  pub pilot-missing : length s ≤ o + 64 * i → _≡_ {A = ℕ} 1 (cond (not (met s o i)) 1 0)
-  unfolding met
-  pilot-missing h = rw (le-ltb (o + 64 * i) (length s) h)
-
-  pub pilot-met : o + 64 * i < length s → getD s (o + 64 * i) 0 ≡ getD pilots i 0 → _≡_ {A = ℕ} 0 (cond (not (met s o i)) 1 0)
-  unfolding met
-  pilot-met h e = rw (lt-ltb (o + 64 * i) (length s) h, eq-eqb (getD s (o + 64 * i) 0) (getD pilots i 0) e)
-
-  pub pilot-differs : o + 64 * i < length s → (getD s (o + 64 * i) 0 ≡ getD pilots i 0 → ⊥) → _≡_ {A = ℕ} 1 (cond (not (met s o i)) 1 0)
-  unfolding met
-  pilot-differs h e = rw (lt-ltb (o + 64 * i) (length s) h, ne-eqb (getD s (o + 64 * i) 0) (getD pilots i 0) e)
