@@ -18,5 +18,5 @@ pub record Follows (start : ℕ) (a : Account) : Type 0 where
 unfoldable pub accountAfter : ℕ → (got : ℕ → ℕ) (lost : ℕ → Bool) (tallies : ℕ → Tallies) → ℕ → Account
 accountAfter start got lost tallies zero = opened start
 accountAfter start got lost tallies (suc f) =
-    cond (lost f) (lossEntered (accountAfter start got lost tallies f) (got f)) (frameEntered (accountAfter start got lost tallies f) (got f)
-    (tallies f)) .account
+    cond (lost f) (lossEntered (accountAfter start got lost tallies f) (got f))
+    (frameEntered (accountAfter start got lost tallies f) (got f) (tallies f)) .account

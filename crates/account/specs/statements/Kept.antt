@@ -21,8 +21,8 @@ KeptFromOrder =
 abbrev pub RefusedKeeps : Type 0
 RefusedKeeps =
     (a : Account) (got : ℕ)
-    → ((t : Tallies) → frameEntered a got t .refusal ≢ 0 → frameEntered a got t .account ≡ a) × (lossEntered a got .refusal ≢ 0
-    → lossEntered a got .account ≡ a)
+    → ((t : Tallies) → frameEntered a got t .refusal ≢ 0 → frameEntered a got t .account ≡ a)
+    × (lossEntered a got .refusal ≢ 0 → lossEntered a got .account ≡ a)
 
 -- flag bytes that say 0, 1, 2 or 3 bring the words that are due
 abbrev pub Brings : Type 0
