@@ -47,8 +47,8 @@ static PAIRS: [Pair; 4] = [
     Pair {
         folder: "decoder_tables",
         comment: "The tables of the decoder. Written by the program `tables` of second/; \
-            proofs/Entries has their rules: of REMAINDERS, COLUMN and BIT by a test over the\n\
-            table, of the other three together by a test over all 8,002 patterns of at most two bits.",
+            proofs/Entries has their rules: of REMAINDERS, COLUMNS and SINGLE_BITS by a test over\n\
+            the table, of the other three together by a test over all 8,002 patterns of at most two bits.",
         lists: OF_PROOFS,
         tables: &[
             Table {
@@ -95,20 +95,20 @@ static PAIRS: [Pair; 4] = [
             },
             Table {
                 comment: "The remainder of the word whose only bit is bit i.",
-                name: "COLUMN",
+                name: "COLUMNS",
                 element: "u16",
                 length: WORD_BITS as usize,
                 entry: |i| remainder(only_bit(i as u8)).into(),
-                list: "bitColumns",
+                list: "columns",
                 line: 16,
             },
             Table {
                 comment: "The two numbers of the word whose only bit is bit i, at 2 i, the upper first.",
-                name: "BIT",
+                name: "SINGLE_BITS",
                 element: "u64",
                 length: 2 * WORD_BITS as usize,
                 entry: |at| <[u64; 2]>::from(split(only_bit((at / 2) as u8)))[at % 2],
-                list: "bit",
+                list: "singleBits",
                 line: 4,
             },
         ],
@@ -394,8 +394,8 @@ mod tests {
 
     #[test]
     fn columns_are_the_remainders_of_the_bits() {
-        let (remainders, bit) = (entries("REMAINDERS"), entries("BIT"));
-        for (i, column) in entries("COLUMN").into_iter().enumerate() {
+        let (remainders, bit) = (entries("REMAINDERS"), entries("SINGLE_BITS"));
+        for (i, column) in entries("COLUMNS").into_iter().enumerate() {
             let word = u128::from(bit[2 * i]) << 64 | u128::from(bit[2 * i + 1]);
             assert_eq!(word, only_bit(i as u8));
             let bytes = (word >> 16).to_le_bytes().into_iter().take(14).enumerate();
@@ -408,7 +408,7 @@ mod tests {
 
     #[test]
     fn flips_and_pairs_lead_back_to_their_places() {
-        let [field, log, ratio, column] = ["FIELD", "LOG", "RATIO", "COLUMN"].map(entries);
+        let [field, log, ratio, column] = ["FIELD", "LOG", "RATIO", "COLUMNS"].map(entries);
         // From a remainder to two places, which are one where only one bit is flipped.
         let places = |rest: u64| {
             let values = field[rest as usize % 256] ^ field[256 + rest as usize / 256];

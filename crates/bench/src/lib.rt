@@ -85,7 +85,7 @@ fn going(run: Run, a: account::Account) -> Run
 }
 
 // What an entry makes of a run: a refused one stops it.
-fn noted(run: Run, e: account::Entry) -> Stepped
+fn after_entry(run: Run, e: account::Entry) -> Stepped
     ensures { λ r. ⌜ r ≡ record { refusal = e .refusal; run = afterEntry run e } ⌝ }
 {
     if e.refusal != 0 {
@@ -117,19 +117,19 @@ fn framed(run: Run, store: &mut [u8; 2880], got: u32, symbols: &[u8]) -> Stepped
     let number = framing::receive(symbols, &mut kept, &mut lanes, &mut flags);
     if number != 0 {
         let e = account::lose(a, got);
-        return noted(run, e);
+        return after_entry(run, e);
     }
     let t = account::tallies_of(a, got, &flags);
     let e = account::enter(a, got, t);
     if e.refusal != 0 {
-        return noted(run, e);
+        return after_entry(run, e);
     }
     copy_store(&kept, store);
-    noted(run, e)
+    after_entry(run, e)
 }
 
 // An order came: the first is taken, with a new account and a fresh store; a second one stops the run.
-fn ordered(run: Run, store: &mut [u8; 2880], start: u32, asked: u32, allowed: u32) -> Run
+fn order_came(run: Run, store: &mut [u8; 2880], start: u32, asked: u32, allowed: u32) -> Run
     ensures { λ r. ⌜ record { run = r; store = now (store .exit) }
         ≡ orderCame (run .phase) (record { run = run; store = now (store .entry) }) start asked allowed ⌝ }
 {
@@ -152,7 +152,7 @@ fn ordered(run: Run, store: &mut [u8; 2880], start: u32, asked: u32, allowed: u3
 }
 
 // A frame came: before any order it stops the run.
-fn came(run: Run, store: &mut [u8; 2880], got: u32, symbols: &[u8]) -> Stepped
+fn frame_came(run: Run, store: &mut [u8; 2880], got: u32, symbols: &[u8]) -> Stepped
     requires { ⌜ length (now symbols) ≡ 6144 ⌝ }
     ensures { λ r. ⌜ (record { run = r .run; store = now (store .exit) }
         ≡ frameCame (run .phase) (record { run = run; store = now (store .entry) }) got (now (symbols .entry)))
@@ -198,7 +198,7 @@ pub fn step(run: Run, store: &mut [u8; 2880], piece: &[u8]) -> Stepped
             allowed,
             next: _,
         } => {
-            let taken = ordered(run, store, start, asked, allowed);
+            let taken = order_came(run, store, start, asked, allowed);
             Stepped {
                 refusal: 0,
                 run: taken,
@@ -210,7 +210,7 @@ pub fn step(run: Run, store: &mut [u8; 2880], piece: &[u8]) -> Stepped
             next: _,
         } => {
             let symbols = capture::symbols_at(piece, from);
-            came(run, store, number, symbols)
+            frame_came(run, store, number, symbols)
         }
     }
 }

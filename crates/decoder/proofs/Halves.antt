@@ -12,7 +12,7 @@ use Rattle.bch.specs.definitions.Code.{remainder, parityOf, coded, flipped}
 use Rattle.decoder.specs.definitions.Mend.{mend, mended}
 use Rattle.bch.specs.definitions.Word.{informationOf}
 use Rattle.decoder.specs.definitions.Word.{decoded}
-use Rattle.decoder_tables.specs.private.Tables.{IsBit}
+use Rattle.decoder_tables.specs.private.Tables.{IsSingleBits}
 use Rattle.decoder.specs.private.Answer.{Answers}
 use Rattle.decoder.specs.declared.Mend.{Mend}
 use Rattle.bch.proofs.Remainder.{remainder-lt}
@@ -20,7 +20,7 @@ use Rattle.decoder.proofs.Patterns.{answers-unique, mend-answers}
 
 -- ---- a bit flipped
 
-pub flip-law : (t : List ℕ) → IsBit t → (hi lo i : ℕ) → hi < 2 ^ 62 → lo < 2 ^ 64 → i < 126
+pub flip-law : (t : List ℕ) → IsSingleBits t → (hi lo i : ℕ) → hi < 2 ^ 62 → lo < 2 ^ 64 → i < 126
     → (bitXor hi (getD t (2 * i) 0) * 2 ^ 64 + bitXor lo (getD t (2 * i + 1) 0) ≡ flipped i (hi * 2 ^ 64 + lo)) × (bitXor hi (getD t (2 * i) 0) < 2 ^ 62)
 unfolding flipped
 flip-law t T hi lo i h l b = (

@@ -5,7 +5,7 @@ ghost use Prim.Native.Nat.{_<_, _≤_, _+_, _*_, _%_, _^_};
 ghost use lib.ListN.{getD, length};
 ghost use Rattle.bits.specs.definitions.Words.{wordOf};
 ghost use Rattle.bch.specs.definitions.Code.{feedOf, remainder, flipped};
-ghost use Rattle.decoder_tables.specs.private.Tables.{IsRemainders, IsColumns, IsBit, Finds, risingOf, roundOf, valuesOf, locatedPair};
+ghost use Rattle.decoder_tables.specs.private.Tables.{IsRemainders, IsColumns, IsSingleBits, Finds, risingOf, roundOf, valuesOf, locatedPair};
 ghost use Rattle.decoder.specs.definitions.Mend.{mended, flagOf};
 ghost use Rattle.decoder.specs.definitions.Word.{decoded, mendedFrame, flagsOf};
 ghost use Rattle.decoder.specs.private.Answer.{Answers, Within, confirmed};
@@ -156,7 +156,7 @@ fn find(field: &[u16; 512], log: &[u16; 128], ratio: &[u16; 255], t: &[u16; 126]
 
 // The word with bit i flipped, by a look-up: places are any, so that a branch on them would be guessed wrong every other time.
 fn flip(bit: &[u64; 252], w: Word, i: u64) -> Word
-    requires { ⌜ IsBit (now bit) ⌝ }
+    requires { ⌜ IsSingleBits (now bit) ⌝ }
     requires { ⌜ (w .hi < 2 ^ 62) × (i < 126) ⌝ }
     ensures { λ v. ⌜ (v .hi * 2 ^ 64 + v .lo ≡ flipped i (w .hi * 2 ^ 64 + w .lo)) × (v .hi < 2 ^ 62) ⌝ }
 {
@@ -169,7 +169,7 @@ fn flip(bit: &[u64; 252], w: Word, i: u64) -> Word
 
 // The word with the bits of a pattern flipped.
 fn mended(bit: &[u64; 252], w: Word, m: Mend) -> Word
-    requires { ⌜ IsBit (now bit) ⌝ }
+    requires { ⌜ IsSingleBits (now bit) ⌝ }
     requires { ⌜ w .hi < 2 ^ 62 ⌝ }
     requires { ⌜ Within m ⌝ }
     ensures { λ v. ⌜ v .hi * 2 ^ 64 + v .lo ≡ mended (w .hi * 2 ^ 64 + w .lo) m ⌝ }
@@ -199,7 +199,7 @@ fn decode_word(
     requires { ⌜ IsRemainders (now remainders) ⌝ }
     requires { ⌜ Finds (now field) (now log) (now ratio) ⌝ }
     requires { ⌜ IsColumns (now column) ⌝ }
-    requires { ⌜ IsBit (now bit) ⌝ }
+    requires { ⌜ IsSingleBits (now bit) ⌝ }
     requires { ⌜ hi < 2 ^ 62 ⌝ }
     ensures { λ r. ⌜ r ≡ decoded (hi * 2 ^ 64 + lo) ⌝ }
 {
@@ -262,7 +262,7 @@ fn decode_words(
     requires { ⌜ IsRemainders (now remainders) ⌝ }
     requires { ⌜ Finds (now field) (now log) (now ratio) ⌝ }
     requires { ⌜ IsColumns (now column) ⌝ }
-    requires { ⌜ IsBit (now bit) ⌝ }
+    requires { ⌜ IsSingleBits (now bit) ⌝ }
     requires { ⌜ (length (now words) ≡ 768) × (length (now flags) ≡ 384) ⌝ }
     ensures { λ _. ⌜ (now (words .exit) ≡ mendedFrame (now (words .entry))) × (now (flags .exit) ≡ flagsOf (now (words .entry))) ⌝ }
 {

@@ -11,7 +11,7 @@ use lib.ListN.{length, getD}
 use lib.Seq.{ext-getD}
 use Rattle.bits.proofs.Xor.{bit-cases}
 use Rattle.bits.proofs.Fixes.{FixesTyped}
-use Rattle.decoder_tables.specs.private.Tables.{IsBit}
+use Rattle.decoder_tables.specs.private.Tables.{IsSingleBits}
 use Rattle.decoder_tables.proofs.remainders.Kinds as remainders-kinds
 use Rattle.decoder_tables.proofs.remainders.Reads as remainders-reads
 use Rattle.decoder_tables.proofs.columns.Kinds as columns-kinds
@@ -32,10 +32,10 @@ pub columns-determined : FixesTyped 0 columns-kinds.ps columns-kinds.r (λ κs x
 columns-determined κs a x y s t lx ly p q = (ext-getD 0 x y (lx ∙ sym ly) (λ k h. p .entry k (omega arith) ∙ sym (q .entry k (omega arith))), tt)
 
 -- the two numbers of a single bit
-upper : (t : List ℕ) → IsBit t → (i : ℕ) → i < 126 → getD t (2 * i) 0 ≡ 2 ^ (125 - i) / 2 ^ 64
+upper : (t : List ℕ) → IsSingleBits t → (i : ℕ) → i < 126 → getD t (2 * i) 0 ≡ 2 ^ (125 - i) / 2 ^ 64
 upper t B i h = sym (digits-div (getD t (2 * i) 0) (B .small i h .1)) ∙ ap (λ (n : ℕ). n / 2 ^ 64) (B .entry i h)
 
-lower : (t : List ℕ) → IsBit t → (i : ℕ) → i < 126 → getD t (2 * i + 1) 0 ≡ 2 ^ (125 - i) % 2 ^ 64
+lower : (t : List ℕ) → IsSingleBits t → (i : ℕ) → i < 126 → getD t (2 * i + 1) 0 ≡ 2 ^ (125 - i) % 2 ^ 64
 lower t B i h = sym (digits-mod (getD t (2 * i) 0) (B .small i h .1)) ∙ ap (λ (n : ℕ). n % 2 ^ 64) (B .entry i h)
 
 pub single-bits-determined : FixesTyped 0 bits-kinds.ps bits-kinds.r (λ κs x. length x ≡ 252) bits-reads.Post (λ κs s t. Unit)

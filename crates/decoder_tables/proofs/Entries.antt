@@ -15,10 +15,10 @@ use Rattle.bits.proofs.Xor.{xor-four}
 use Rattle.bits.proofs.Table.{every, everyTwo, each, table-rule, pairs-rule, range-rule, and-left, and-right}
 use Rattle.bits.proofs.Sums.{sums, sumAt, sums-long, sums-at, sum-xor, sums-linear}
 use Rattle.bch.specs.definitions.Code.{stepOf, feedOf, remainder}
-use Rattle.decoder_tables.specs.private.Tables.{column, IsRemainders, IsColumns, IsBit, Finds, locatedPair, roundOf, valuesOf, risingOf}
+use Rattle.decoder_tables.specs.private.Tables.{column, IsRemainders, IsColumns, IsSingleBits, Finds, locatedPair, roundOf, valuesOf, risingOf}
 use Rattle.decoder_tables.specs.declared.Pair.{Pair}
 use Rattle.bch.proofs.Remainder.{feed-xor, feed-plain, feed-append, remainder-lt, remainder-zero, remainder-power}
-use Rattle.decoder_tables.proofs.Lists.{remainders, field, log, ratio, bitColumns, bit}
+use Rattle.decoder_tables.proofs.Lists.{remainders, field, log, ratio, columns, singleBits}
 
 -- ---- `REMAINDERS`: fourteen tables of sums of eight powers of x, each above those of the table before it
 
@@ -75,64 +75,64 @@ remainder-entry p b h l =
 pub is-remainders : IsRemainders remainders
 is-remainders = record { entry = remainder-entry }
 
--- ---- `COLUMN`: its last entry is 1, and each other is the one behind it times x
+-- ---- `COLUMNS`: its last entry is 1, and each other is the one behind it times x
 
 column-ok : ℕ → Bool
-column-ok i = eqb (getD bitColumns i 0) (stepOf (getD bitColumns (suc i) 0) 0)
+column-ok i = eqb (getD columns i 0) (stepOf (getD columns (suc i) 0) 0)
 
 column-test : T (each column-ok 125 0)
 unfolding column-ok stepOf
 column-test = tt
 
-column-up : (e : ℕ) → e < 126 → getD bitColumns (125 - e) 0 ≡ remainder 126 (2 ^ e)
+column-up : (e : ℕ) → e < 126 → getD columns (125 - e) 0 ≡ remainder 126 (2 ^ e)
 unfolding column-ok feedOf stepOf
 column-up zero h = refl
 column-up (suc e) h =
     let i : suc (125 - suc e) ≡ 125 - e = omega arith in
-    eqb→eq (getD bitColumns (125 - suc e) 0) (stepOf (getD bitColumns (suc (125 - suc e)) 0) 0)
+    eqb→eq (getD columns (125 - suc e) 0) (stepOf (getD columns (suc (125 - suc e)) 0) 0)
     (range-rule column-ok 125 0 column-test (125 - suc e) (omega arith) (omega arith))
-    ∙ ap (λ (x : ℕ). stepOf x 0) (ap (λ (k : ℕ). getD bitColumns k 0) i ∙ column-up e (omega arith))
+    ∙ ap (λ (x : ℕ). stepOf x 0) (ap (λ (k : ℕ). getD columns k 0) i ∙ column-up e (omega arith))
     ∙ sym (remainder-power 125 e (omega arith))
 
-column-entry : (i : ℕ) → i < 126 → getD bitColumns i 0 ≡ column i
+column-entry : (i : ℕ) → i < 126 → getD columns i 0 ≡ column i
 unfolding column
 column-entry i h =
     let e : 125 - (125 - i) ≡ i = omega arith in
-    ap (λ (k : ℕ). getD bitColumns k 0) (sym e) ∙ column-up (125 - i) (omega arith)
+    ap (λ (k : ℕ). getD columns k 0) (sym e) ∙ column-up (125 - i) (omega arith)
 
-pub is-columns : IsColumns bitColumns
+pub is-columns : IsColumns columns
 is-columns = record { entry = column-entry }
 
--- ---- `BIT`: two numbers a place
+-- ---- `SINGLE_BITS`: two numbers a place
 
-bit-ok : ℕ → Bool
-bit-ok i =
-    eqb (getD bit (2 * i) 0 * 2 ^ 64 + getD bit (2 * i + 1) 0) (2 ^ (125 - i)) && (ltb (getD bit (2 * i) 0) (2 ^ 62) && ltb (getD bit (2 * i + 1) 0) (2 ^ 64))
+single-ok : ℕ → Bool
+single-ok i =
+    eqb (getD singleBits (2 * i) 0 * 2 ^ 64 + getD singleBits (2 * i + 1) 0) (2 ^ (125 - i)) && (ltb (getD singleBits (2 * i) 0) (2 ^ 62) && ltb (getD singleBits (2 * i + 1) 0) (2 ^ 64))
 
-bit-test : T (each bit-ok 126 0)
-unfolding bit-ok
-bit-test = tt
+single-test : T (each single-ok 126 0)
+unfolding single-ok
+single-test = tt
 
-pub is-bit : IsBit bit
-unfolding bit-ok
-is-bit =
+pub is-single-bits : IsSingleBits singleBits
+unfolding single-ok
+is-single-bits =
     record {
       entry = λ i h. eqb→eq (number i) (2 ^ (125 - i)) (and-left (eqb (number i) (2 ^ (125 - i))) (fits i) (rule i h));
       small = λ i h.
           let f = and-right (eqb (number i) (2 ^ (125 - i))) (fits i) (rule i h) in
-          let upper = ltb (getD bit (2 * i) 0) (2 ^ 62) in
-          let lower = ltb (getD bit (2 * i + 1) 0) (2 ^ 64) in
-          (ltb→lt (getD bit (2 * i) 0) (2 ^ 62) (and-left upper lower f), ltb→lt (getD bit (2 * i + 1) 0) (2 ^ 64) (and-right upper lower f));
+          let upper = ltb (getD singleBits (2 * i) 0) (2 ^ 62) in
+          let lower = ltb (getD singleBits (2 * i + 1) 0) (2 ^ 64) in
+          (ltb→lt (getD singleBits (2 * i) 0) (2 ^ 62) (and-left upper lower f), ltb→lt (getD singleBits (2 * i + 1) 0) (2 ^ 64) (and-right upper lower f));
     }
   where
     number : ℕ → ℕ
-    number i = getD bit (2 * i) 0 * 2 ^ 64 + getD bit (2 * i + 1) 0
+    number i = getD singleBits (2 * i) 0 * 2 ^ 64 + getD singleBits (2 * i + 1) 0
 
     fits : ℕ → Bool
-    fits i = ltb (getD bit (2 * i) 0) (2 ^ 62) && ltb (getD bit (2 * i + 1) 0) (2 ^ 64)
+    fits i = ltb (getD singleBits (2 * i) 0) (2 ^ 62) && ltb (getD singleBits (2 * i + 1) 0) (2 ^ 64)
 
-    rule : (i : ℕ) → i < 126 → T (bit-ok i)
-    rule i h = range-rule bit-ok 126 0 bit-test i (omega arith) h
+    rule : (i : ℕ) → i < 126 → T (single-ok i)
+    rule i h = range-rule single-ok 126 0 single-test i (omega arith) h
 
 -- ---- `FIELD`, `LOG` and `RATIO`: from the remainder of each pattern of one bit or two they lead to its places
 
@@ -189,7 +189,7 @@ leads-to p i j t =
 
 -- the values of the single bits
 values : List ℕ
-values = map (valuesOf field) bitColumns
+values = map (valuesOf field) columns
 
 one-ok : ℕ → ℕ → Bool
 one-ok i v = leads (located v) i i
@@ -211,7 +211,7 @@ located-is s = refl
 
 value-at : (i : ℕ) → i < 126 → getD values i 0 ≡ valuesOf field (column i)
 unfolding values valuesOf
-value-at i h = List·getD-map (valuesOf field) bitColumns i 0 ∙ ap (valuesOf field) (column-entry i h)
+value-at i h = List·getD-map (valuesOf field) columns i 0 ∙ ap (valuesOf field) (column-entry i h)
 
 column-lt : (i : ℕ) → column i < 65536
 unfolding column

@@ -1,5 +1,5 @@
 // The decoder's tables, each with the rule that it keeps. A caller asks for a table once and lends it to what looks things up.
-ghost use Rattle.decoder_tables.specs.private.Tables.{IsRemainders, IsColumns, IsBit, Finds};
+ghost use Rattle.decoder_tables.specs.private.Tables.{IsRemainders, IsColumns, IsSingleBits, Finds};
 
 mod tables;
 
@@ -27,14 +27,14 @@ pub fn remainders() -> [u16; 3584]
 pub fn columns() -> [u16; 126]
     ensures { λ t. ⌜ IsColumns t ⌝ }
 {
-    tables::COLUMN
+    tables::COLUMNS
 }
 
 // Single bits as words, two numbers each.
 pub fn single_bits() -> [u64; 252]
-    ensures { λ t. ⌜ IsBit t ⌝ }
+    ensures { λ t. ⌜ IsSingleBits t ⌝ }
 {
-    tables::BIT
+    tables::SINGLE_BITS
 }
 
 // The tables that lead to places.

@@ -1,5 +1,5 @@
-// The tables of the decoder. Written by the program `tables` of second/; proofs/Entries has their rules: of REMAINDERS, COLUMN and BIT by a test over the
-// table, of the other three together by a test over all 8,002 patterns of at most two bits.
+// The tables of the decoder. Written by the program `tables` of second/; proofs/Entries has their rules: of REMAINDERS, COLUMNS and SINGLE_BITS by a test over
+// the table, of the other three together by a test over all 8,002 patterns of at most two bits.
 
 // The remainder of byte b times x^(8 p + 16), at 256 p + b.
 pub const REMAINDERS: [u16; 3584] = [
@@ -4500,7 +4500,7 @@ pub const RATIO: [u16; 255] = [
 ];
 
 // The remainder of the word whose only bit is bit i.
-pub const COLUMN: [u16; 126] = [
+pub const COLUMNS: [u16; 126] = [
     12646,
     6323,
     43788,
@@ -4630,7 +4630,7 @@ pub const COLUMN: [u16; 126] = [
 ];
 
 // The two numbers of the word whose only bit is bit i, at 2 i, the upper first.
-pub const BIT: [u64; 252] = [
+pub const SINGLE_BITS: [u64; 252] = [
     2305843009213693952,
     0,
     1152921504606846976,

@@ -21,19 +21,19 @@ received c =
 
 returns : tie.Need-returns
 returns c =
-    lost _ _ (received (c .before .before .before .before .before .before)) _ _ (c .noted .ensures) (c .before .before .if1 .taken) (c .before .lose .ensures)
+    lost _ _ (received (c .before .before .before .before .before .before)) _ _ (c .after-entry .ensures) (c .before .before .if1 .taken) (c .before .lose .ensures)
 
 returns-2 : tie.Need-returns-2
 returns-2 c =
     let lock = c .before .before .before .before .before .before in
-    frame-refused _ _ (received (lock .before .before .before .before)) _ _ (c .noted2 .ensures) (lock .if1 .left) _
+    frame-refused _ _ (received (lock .before .before .before .before)) _ _ (c .after-entry2 .ensures) (lock .if1 .left) _
     (c .before .before .before .before .tallies-of .ensures) (c .before .before .before .enter .ensures) (c .before .if2 .taken)
 
 returns-3 : tie.Need-returns-3
 returns-3 c =
     let entry = c .before .before .before .before in
     let lock = entry .before .before .before .before .before in
-    frame-taken _ _ (received (lock .before .before .before .before)) _ _ (c .noted3 .ensures) (lock .if1 .left) _
+    frame-taken _ _ (received (lock .before .before .before .before)) _ _ (c .after-entry3 .ensures) (lock .if1 .left) _
     (entry .before .before .before .tallies-of .ensures) (entry .before .before .enter .ensures) _ (c .before .copy-store2 .ensures .0) (entry .if2 .left)
 
 pub framed-spec : {M : Type 1} → statement M

@@ -24,7 +24,7 @@ pub record IsColumns (t : List ℕ) : Type 0 where
   pub entry : (i : ℕ) → i < 126 → getD t i 0 ≡ column i
 
 -- `single_bits`: entries 2 i and 2 i + 1 are the two numbers of the word whose only bit is bit i
-pub record IsBit (t : List ℕ) : Type 0 where
+pub record IsSingleBits (t : List ℕ) : Type 0 where
   pub entry : (i : ℕ) → i < 126 → getD t (2 * i) 0 * 2 ^ 64 + getD t (2 * i + 1) 0 ≡ 2 ^ (125 - i)
   pub small : (i : ℕ) → i < 126 → (getD t (2 * i) 0 < 2 ^ 62) × (getD t (2 * i + 1) 0 < 2 ^ 64)
 

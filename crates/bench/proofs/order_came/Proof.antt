@@ -1,10 +1,10 @@
--- `bench::ordered` meets its contract, phase by phase. Assumes nothing.
+-- `bench::order_came` meets its contract, phase by phase. Assumes nothing.
 use Rattle.bits.proofs.Cases.{at-case}
 use Rattle.bench.specs.declared.Phase.{Phase}
 use Rattle.bench.specs.definitions.Run.{orderCame}
 use borrow.Author.Needs.{needs}
-use Rattle.bench.proofs.ordered.Statement.{statement}
-use Rattle.bench.proofs.ordered.Tie as tie
+use Rattle.bench.proofs.order_came.Statement.{statement}
+use Rattle.bench.proofs.order_came.Tie as tie
 
 returns : tie.Need-returns
 unfolding orderCame
@@ -27,8 +27,8 @@ returns-3 c =
     let x = c .before .before .args in
     at-case (λ (p : Phase). orderCame p (record { run = x .run; store = x .store .now }) (x .start) (x .asked) (x .allowed)) (c .enum-told3 .given .1)
 
-pub ordered-spec : {M : Type 1} → statement M
-ordered-spec =
+pub order-came-spec : {M : Type 1} → statement M
+order-came-spec =
     tie.close
     (tie.spec
     (λ c. search needs)

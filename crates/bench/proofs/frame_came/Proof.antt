@@ -1,9 +1,9 @@
--- `bench::came` meets its contract, phase by phase. Assumes nothing.
+-- `bench::frame_came` meets its contract, phase by phase. Assumes nothing.
 use Rattle.bench.specs.definitions.Run.{frameCame, frameRefusal}
 use Rattle.bench.proofs.Steps.{by-phase}
 use borrow.Author.Needs.{needs}
-use Rattle.bench.proofs.came.Statement.{statement}
-use Rattle.bench.proofs.came.Tie as tie
+use Rattle.bench.proofs.frame_came.Statement.{statement}
+use Rattle.bench.proofs.frame_came.Tie as tie
 
 returns : tie.Need-returns
 unfolding frameCame frameRefusal
@@ -24,8 +24,8 @@ unfolding frameCame frameRefusal
 returns-3 c =
     let x = c .before .before .before .args in by-phase (record { run = x .run; store = x .store .now }) (x .got) (x .symbols .now) (c .enum-told3 .given .1)
 
-pub came-spec : {M : Type 1} → statement M
-came-spec =
+pub frame-came-spec : {M : Type 1} → statement M
+frame-came-spec =
     tie.close
     (tie.spec
     (λ c. search needs)
