@@ -107,7 +107,8 @@ is-columns = record { entry = column-entry }
 
 single-ok : ℕ → Bool
 single-ok i =
-    eqb (getD singleBits (2 * i) 0 * 2 ^ 64 + getD singleBits (2 * i + 1) 0) (2 ^ (125 - i)) && (ltb (getD singleBits (2 * i) 0) (2 ^ 62) && ltb (getD singleBits (2 * i + 1) 0) (2 ^ 64))
+    eqb (getD singleBits (2 * i) 0 * 2 ^ 64 + getD singleBits (2 * i + 1) 0) (2 ^ (125 - i)) &&
+    (ltb (getD singleBits (2 * i) 0) (2 ^ 62) && ltb (getD singleBits (2 * i + 1) 0) (2 ^ 64))
 
 single-test : T (each single-ok 126 0)
 unfolding single-ok

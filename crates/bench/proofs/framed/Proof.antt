@@ -21,7 +21,8 @@ received c =
 
 returns : tie.Need-returns
 returns c =
-    lost _ _ (received (c .before .before .before .before .before .before)) _ _ (c .after-entry .ensures) (c .before .before .if1 .taken) (c .before .lose .ensures)
+    lost _ _ (received (c .before .before .before .before .before .before)) _ _ (c .after-entry .ensures) (c .before .before .if1 .taken)
+    (c .before .lose .ensures)
 
 returns-2 : tie.Need-returns-2
 returns-2 c =
