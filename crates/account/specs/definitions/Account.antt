@@ -110,7 +110,7 @@ measured asked a = ltb 0 asked && (eqb (a .accepted) asked && (eqb (a .missing) 
 unfoldable pub verdict : ℕ → ℕ → Account → Bool → Verdict
 verdict asked allowed a stopped = cond (not stopped && measured asked a) (cond (leb (a .words .flagged) allowed) Pass Fail) NotMeasured
 
--- the verdict's number for a host in C (house: what is not set says not measured)
+-- the verdict's number (house: what is not set says not measured)
 unfoldable pub verdictNumber : Verdict → ℕ
 verdictNumber NotMeasured = 0
 verdictNumber Pass = 1

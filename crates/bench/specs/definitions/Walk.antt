@@ -18,7 +18,7 @@ walked (suc n) s i st = walked n s (nextOf (readAt s i) i) (cameAs (readAt s i) 
 unfoldable pub examined : List ℕ → State
 examined s = walked (length s) s 0 fresh
 
--- bytes cut as the program cuts them, into at most n pieces: four bytes, then what a lawful length asks for, or what is left
+-- bytes cut as one cuts them who holds one record at a time, into at most n pieces: four bytes, then what a lawful length asks for, or what is left
 unfoldable pub cut : ℕ → List ℕ → List (List ℕ)
 cut zero s = []
 cut (suc n) s = cond (eqb (length s) 0) [] (take (wanted s) s ∷ cut n (drop (wanted s) s))

@@ -1,4 +1,4 @@
--- What a word decodes to (01, BCH; demands 2 and 3), and the smallest distance; `proofs/Theorems` proves each.
+-- What a word decodes to, and what the calls over words and frames answer (01, BCH; demands 2 and 3); and the smallest distance. `proofs/Theorems` proves each.
 -- Assumes nothing.
 use mathlib.Core.Path.{_≡_}
 use mathlib.Core.Logic.{_≢_, _↔_}
