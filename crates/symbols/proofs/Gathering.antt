@@ -1,4 +1,4 @@
--- From symbols to words: four lanes' numbers gathered pair by pair, eight symbols at a time, and the words of a frame with their bits at their places.
+-- From symbols to words: four lanes' numbers gathered dibit by dibit, eight symbols at a time, and the words of a frame with their bits at their places.
 -- Assumes nothing.
 use mathlib.Core.Path.{_≡_, refl, sym, ap, ap₂, _∙_, subst}
 use mathlib.Core.Logic.{_≢_}
@@ -32,17 +32,17 @@ placedWord f i = number 126 (placedBit f (i / 32) (i % 32))
 
 -- ---- a symbol's dibits, by the table
 
-pair-lt : (l r x : ℕ) → dibitOf l r x < 4
+dibit-lt : (l r x : ℕ) → dibitOf l r x < 4
 unfolding dibitOf
-pair-lt l r x = omega (arith, bit-lt 8 x (2 * tributaryIn l r + l % 2), bit-lt 8 x (2 * tributaryIn l r + (l + 1) % 2))
+dibit-lt l r x = omega (arith, bit-lt 8 x (2 * tributaryIn l r + l % 2), bit-lt 8 x (2 * tributaryIn l r + (l + 1) % 2))
 
 tributary-lt : (l r : ℕ) → tributaryIn l r < 4
 unfolding tributaryIn
 tributary-lt l r = omega arith
 
-pair-mod : (l r x : ℕ) → dibitOf (l % 4) r x ≡ dibitOf l r x
+dibit-mod : (l r x : ℕ) → dibitOf (l % 4) r x ≡ dibitOf l r x
 unfolding dibitOf
-pair-mod l r x =
+dibit-mod l r x =
     let e : l % 4 % 2 ≡ l % 2 = omega arith in
     let d : (l % 4 + 1) % 2 ≡ (l + 1) % 2 = omega arith in
     λ k. bitOf 8 x (2 * tributary-mod l r k + e k) * 2 + bitOf 8 x (2 * tributary-mod l r k + d k)
@@ -51,7 +51,7 @@ pub dibits-at : (t : List ℕ) (l x : ℕ) → IsDibits t → x < 256 → getD t
 unfolding dibitsOf
 dibits-at t l x S h =
     S .entry (l % 4) x (omega arith) h
-    ∙ λ k. pair-mod l 0 x k * 2 ^ 48 + pair-mod l 1 x k * 2 ^ 32 + pair-mod l 2 x k * 2 ^ 16 + pair-mod l 3 x k
+    ∙ λ k. dibit-mod l 0 x k * 2 ^ 48 + dibit-mod l 1 x k * 2 ^ 32 + dibit-mod l 2 x k * 2 ^ 16 + dibit-mod l 3 x k
 
 -- ---- a lane's number in the symbols s, of which the first is number l
 
@@ -66,7 +66,7 @@ module _ (l : ℕ) (s : List ℕ) (r : ℕ) where
 
   gathered-lt : (n : ℕ) → gathered n l s r < 4 ^ n
   unfolding gathered
-  gathered-lt n = value-lt 4 n _ (λ i _. pair-lt (l + i) r (getD s i 0))
+  gathered-lt n = value-lt 4 n _ (λ i _. dibit-lt (l + i) r (getD s i 0))
 
   -- of at most k symbols
   gathered-le : (n k : ℕ) → n ≤ k → gathered n l s r < 4 ^ k
@@ -92,7 +92,7 @@ module _ (s : List ℕ) (at l : ℕ) where
       let p′ = p ∙ ap (dibitsOf (l + j)) (sym (getD-drop at s j 0)) in
       omega (arith, g 0 j, g 1 j, g 2 j, g 3 j, p′)
 
-  -- room for one more pair in each field
+  -- room for one more dibit in each field
   pub fields-room : (j v : ℕ) → j < 8 → v ≡ fieldsOf j l (drop at s) → v < 2 ^ 62
   unfolding fieldsOf
   fields-room j v h e =
@@ -148,12 +148,12 @@ module _ (s : List ℕ) (at l : ℕ) where
 -- ---- the words of a frame
 
 -- dibits, and bits
-pairs-number : (h : ℕ → ℕ) (n : ℕ) → value 4 n (λ i. h (2 * i) * 2 + h (2 * i + 1)) ≡ number (2 * n) h
+dibits-number : (h : ℕ → ℕ) (n : ℕ) → value 4 n (λ i. h (2 * i) * 2 + h (2 * i + 1)) ≡ number (2 * n) h
 unfolding value
-pairs-number h zero = refl
-pairs-number h (suc n) =
+dibits-number h zero = refl
+dibits-number h (suc n) =
     let e : 2 * suc n ≡ suc (suc (2 * n)) = omega arith in
-    rw (e, pairs-number h n, ← add-one (2 * n)) (omega arith)
+    rw (e, dibits-number h n, ← add-one (2 * n)) (omega arith)
 
 module _ (f : List ℕ) (g r : ℕ) (h : g < 96) (b : r < 4) where
   -- the bits of word 4 g + r at their places
@@ -196,10 +196,10 @@ module _ (f : List ℕ) (g r : ℕ) (h : g < 96) (b : r < 4) where
         ap₂ (λ (p i : ℕ). bitAt f (8 * p + i)) payload-is bit-is
         ∙ bitAt-byte f (g * 64 + 1 + j) _ (omega (arith, tributary-lt (g % 8 * 63 + j) r))
 
-  -- a symbol's pair is two bits of the word
-  placed-pair : (j : ℕ) → j < 63 → dibitOf (g % 8 * 63 + j) r (getD f (g * 64 + 1 + j) 0) ≡ bitsOf (2 * j) * 2 + bitsOf (2 * j + 1)
+  -- a symbol's dibit is two bits of the word
+  placed-dibit : (j : ℕ) → j < 63 → dibitOf (g % 8 * 63 + j) r (getD f (g * 64 + 1 + j) 0) ≡ bitsOf (2 * j) * 2 + bitsOf (2 * j + 1)
   unfolding dibitOf
-  placed-pair j hj =
+  placed-dibit j hj =
       let l = g % 8 * 63 + j in
       let z : 2 * j + 0 ≡ 2 * j = omega arith in
       let y : l % 2 ≡ (l + 0) % 2 = omega arith in
@@ -208,46 +208,46 @@ module _ (f : List ℕ) (g r : ℕ) (h : g < 96) (b : r < 4) where
       (sym (placed-at j 1 hj (omega arith)))
 
   -- the dibit of symbol x of half u of the group, behind the pilot
-  half-pair : (u x : ℕ) → u < 2 → x < 32 → 1 ≤ 32 * u + x
+  half-dibit : (u x : ℕ) → u < 2 → x < 32 → 1 ≤ 32 * u + x
       → dibitOf (g * 63 + 3 + x) r (getD (drop (g * 64 + u * 32) f) x 0) ≡ bitsOf (64 * u + 2 * x - 2) * 2 + bitsOf (64 * u + 2 * x - 1)
-  half-pair u x hu hx behind =
+  half-dibit u x hu hx behind =
       let j = 32 * u + x - 1 in
       let d : g * 64 + u * 32 + x ≡ g * 64 + 1 + j = omega arith in
       let a : 2 * j ≡ 64 * u + 2 * x - 2 = omega arith in
       let b : 2 * j + 1 ≡ 64 * u + 2 * x - 1 = omega arith in
       let y = getD f (g * 64 + 1 + j) 0 in
       ap (dibitOf (g * 63 + 3 + x) r) (getD-drop (g * 64 + u * 32) f x 0 ∙ ap (λ (k : ℕ). getD f k 0) d)
-      ∙ sym (pair-mod (g * 63 + 3 + x) r y) ∙ ap (λ (l : ℕ). dibitOf l r y) (counted-mod g u x behind) ∙ pair-mod (g % 8 * 63 + j) r y
-      ∙ placed-pair j (omega arith) ∙ λ k. bitsOf (a k) * 2 + bitsOf (b k)
+      ∙ sym (dibit-mod (g * 63 + 3 + x) r y) ∙ ap (λ (l : ℕ). dibitOf l r y) (counted-mod g u x behind) ∙ dibit-mod (g % 8 * 63 + j) r y
+      ∙ placed-dibit j (omega arith) ∙ λ k. bitsOf (a k) * 2 + bitsOf (b k)
 
-  -- the first 32 symbols, without the pilot's pair
+  -- the first 32 symbols, without the pilot's dibit
   upper-gathered : gathered 32 (g * 63 + 3) (drop (g * 64 + 0 * 32) f) r % 2 ^ 62 ≡ number 62 bitsOf
   unfolding gathered
   upper-gathered =
       ap (λ (v : ℕ). v % 2 ^ 62) (value-append 4 1 31 _)
-      ∙ mul-add-mod-self-right (gathered 1 (g * 63 + 3) (drop (g * 64 + 0 * 32) f) r) (2 ^ 62) (value 4 31 (λ i. pair (1 + i)))
-      ∙ mod-eq-of-lt (value-lt 4 31 (λ i. pair (1 + i)) (λ i _. pair-lt (g * 63 + 3 + (1 + i)) r (getD (drop (g * 64 + 0 * 32) f) (1 + i) 0)))
-      ∙ value-cong 4 31 _ _ at ∙ pairs-number bitsOf 31
+      ∙ mul-add-mod-self-right (gathered 1 (g * 63 + 3) (drop (g * 64 + 0 * 32) f) r) (2 ^ 62) (value 4 31 (λ i. dibit (1 + i)))
+      ∙ mod-eq-of-lt (value-lt 4 31 (λ i. dibit (1 + i)) (λ i _. dibit-lt (g * 63 + 3 + (1 + i)) r (getD (drop (g * 64 + 0 * 32) f) (1 + i) 0)))
+      ∙ value-cong 4 31 _ _ at ∙ dibits-number bitsOf 31
     where
-      pair : ℕ → ℕ
-      pair x = dibitOf (g * 63 + 3 + x) r (getD (drop (g * 64 + 0 * 32) f) x 0)
+      dibit : ℕ → ℕ
+      dibit x = dibitOf (g * 63 + 3 + x) r (getD (drop (g * 64 + 0 * 32) f) x 0)
 
-      at : (i : ℕ) → i < 31 → pair (1 + i) ≡ bitsOf (2 * i) * 2 + bitsOf (2 * i + 1)
+      at : (i : ℕ) → i < 31 → dibit (1 + i) ≡ bitsOf (2 * i) * 2 + bitsOf (2 * i + 1)
       at i c =
           let a : 64 * 0 + 2 * (1 + i) - 2 ≡ 2 * i = omega arith in
           let b : 64 * 0 + 2 * (1 + i) - 1 ≡ 2 * i + 1 = omega arith in
-          half-pair 0 (1 + i) (omega arith) (omega arith) (omega arith) ∙ λ k. bitsOf (a k) * 2 + bitsOf (b k)
+          half-dibit 0 (1 + i) (omega arith) (omega arith) (omega arith) ∙ λ k. bitsOf (a k) * 2 + bitsOf (b k)
 
   -- the other 32
   lower-gathered : gathered 32 (g * 63 + 3) (drop (g * 64 + 1 * 32) f) r ≡ number 64 (λ q. bitsOf (62 + q))
   unfolding gathered
-  lower-gathered = value-cong 4 32 _ _ at ∙ pairs-number (λ q. bitsOf (62 + q)) 32
+  lower-gathered = value-cong 4 32 _ _ at ∙ dibits-number (λ q. bitsOf (62 + q)) 32
     where
       at : (i : ℕ) → i < 32 → dibitOf (g * 63 + 3 + i) r (getD (drop (g * 64 + 1 * 32) f) i 0) ≡ bitsOf (62 + 2 * i) * 2 + bitsOf (62 + (2 * i + 1))
       at i c =
           let a : 64 * 1 + 2 * i - 2 ≡ 62 + 2 * i = omega arith in
           let b : 64 * 1 + 2 * i - 1 ≡ 62 + (2 * i + 1) = omega arith in
-          half-pair 1 i (omega arith) c (omega arith) ∙ λ k. bitsOf (a k) * 2 + bitsOf (b k)
+          half-dibit 1 i (omega arith) c (omega arith) ∙ λ k. bitsOf (a k) * 2 + bitsOf (b k)
 
   -- word i, by its upper and its lower number
   pub placed-upper : (i : ℕ) → i ≡ 4 * g + r → gathered 32 (g * 63 + 3) (drop (g * 64 + 0 * 32) f) r % 2 ^ 62 ≡ placedWord f i / 2 ^ 64
@@ -346,7 +346,7 @@ module _ {f : List ℕ} where
   pub gathering-done : {s : List ℕ} {h : ℕ} → Gathering f (4 * h) s → 192 ≤ h → s ≡ tabulate 768 (gatheredAt f)
   gathering-done {s} G b = is-tabulate 0 s 768 (gatheredAt f) (G .long) (λ j l. G .done j l (omega (arith, order-lt j l)))
 
--- the row has the words of the frame, the pilot's pair being cut off
+-- the row has the words of the frame, the pilot's dibit being cut off
 placed-word : (f : List ℕ) (i : ℕ) → i < 384 → wordAt (tabulate 768 (gatheredAt f)) i ≡ placedWord f i
 unfolding wordAt wordOf gatheredAt
 placed-word f i h =

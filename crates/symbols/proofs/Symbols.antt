@@ -86,9 +86,9 @@ parts-sum l a b c d ha hb hc hd =
 -- ---- a symbol from four numbers
 
 -- a dibit by a shift
-pair-bits : (n a i : ℕ) → i < n → a / 2 ^ (2 * (n - (i + 1))) % 4 ≡ bitOf (2 * n) a (2 * i + 0) * 2 + bitOf (2 * n) a (2 * i + 1)
+dibit-bits : (n a i : ℕ) → i < n → a / 2 ^ (2 * (n - (i + 1))) % 4 ≡ bitOf (2 * n) a (2 * i + 0) * 2 + bitOf (2 * n) a (2 * i + 1)
 unfolding bitOf
-pair-bits n a i h =
+dibit-bits n a i h =
     let k = 2 * (n - (i + 1)) in
     let e : 2 * n - 1 - (2 * i + 0) ≡ suc k = omega arith in
     let d : 2 * n - 1 - (2 * i + 1) ≡ k = omega arith in
@@ -96,17 +96,17 @@ pair-bits n a i h =
 
 -- four dibits in the lanes' order
 module _ (n i : ℕ) (w : ℕ → ℕ) where
-  abbrev pairBit : ℕ → ℕ
-  pairBit k = bitOf (2 * n) (w (k / 2)) (2 * i + k % 2)
+  abbrev dibitBit : ℕ → ℕ
+  dibitBit k = bitOf (2 * n) (w (k / 2)) (2 * i + k % 2)
 
-  abbrev pairAt : ℕ → ℕ
-  pairAt r = w r / 2 ^ (2 * (n - (i + 1))) % 4
+  abbrev dibitAt : ℕ → ℕ
+  dibitAt r = w r / 2 ^ (2 * (n - (i + 1))) % 4
 
-  pairs-law : i < n → pairAt 0 * 64 + pairAt 1 * 16 + pairAt 2 * 4 + pairAt 3 ≡ number 8 pairBit
+  dibits-law : i < n → dibitAt 0 * 64 + dibitAt 1 * 16 + dibitAt 2 * 4 + dibitAt 3 ≡ number 8 dibitBit
   unfolding value
-  pairs-law h = omega (arith, pair-bits n (w 0) i h, pair-bits n (w 1) i h, pair-bits n (w 2) i h, pair-bits n (w 3) i h)
+  dibits-law h = omega (arith, dibit-bits n (w 0) i h, dibit-bits n (w 1) i h, dibit-bits n (w 2) i h, dibit-bits n (w 3) i h)
 
-  symbol-law : (l y : ℕ) → i < n → y ≡ pairAt 0 * 64 + pairAt 1 * 16 + pairAt 2 * 4 + pairAt 3 → mapped (l + i) y ≡ symbolFrom n l w i
+  symbol-law : (l y : ℕ) → i < n → y ≡ dibitAt 0 * 64 + dibitAt 1 * 16 + dibitAt 2 * 4 + dibitAt 3 → mapped (l + i) y ≡ symbolFrom n l w i
   unfolding mapped symbolFrom
   symbol-law l y h e =
       value-cong 2 8 _ _ (λ k b. at (laneIn (l + i) (k / 2)) ((k + (l + i)) % 2) (lane-lt (l + i) (k / 2)) (omega arith))
@@ -115,8 +115,8 @@ module _ (n i : ℕ) (w : ℕ → ℕ) where
       at r u hr hu =
           let d : (2 * r + u) / 2 ≡ r = omega arith in
           let m : (2 * r + u) % 2 ≡ u = omega arith in
-          ap (λ (v : ℕ). bitOf 8 v (2 * r + u)) (e ∙ pairs-law h)
-          ∙ bit-number 8 pairBit (λ k _. bit-lt (2 * n) (w (k / 2)) (2 * i + k % 2)) (2 * r + u) (omega arith)
+          ap (λ (v : ℕ). bitOf 8 v (2 * r + u)) (e ∙ dibits-law h)
+          ∙ bit-number 8 dibitBit (λ k _. bit-lt (2 * n) (w (k / 2)) (2 * i + k % 2)) (2 * r + u) (omega arith)
           ∙ ap₂ (λ (a b : ℕ). bitOf (2 * n) (w a) (2 * i + b)) d m
 
 -- ---- four symbols side by side
@@ -145,17 +145,17 @@ shift-more a k j = rw (pow-add 2 k j, ← div-div-eq-div-mul)
 
 -- the four dibits above the m low ones, as those of a byte
 module _ (a m : ℕ) where
-  pair-0 : a / 2 ^ (2 * (m + 4 - (0 + 1))) % 4 ≡ a / 2 ^ (2 * m) % 256 / 64
-  pair-0 = let e : 2 * (m + 4 - (0 + 1)) ≡ 2 * m + 6 = omega arith in rw (e, shift-more a (2 * m) 6) (omega arith)
+  dibit-0 : a / 2 ^ (2 * (m + 4 - (0 + 1))) % 4 ≡ a / 2 ^ (2 * m) % 256 / 64
+  dibit-0 = let e : 2 * (m + 4 - (0 + 1)) ≡ 2 * m + 6 = omega arith in rw (e, shift-more a (2 * m) 6) (omega arith)
 
-  pair-1 : a / 2 ^ (2 * (m + 4 - (1 + 1))) % 4 ≡ a / 2 ^ (2 * m) % 256 / 16 % 4
-  pair-1 = let e : 2 * (m + 4 - (1 + 1)) ≡ 2 * m + 4 = omega arith in rw (e, shift-more a (2 * m) 4) (omega arith)
+  dibit-1 : a / 2 ^ (2 * (m + 4 - (1 + 1))) % 4 ≡ a / 2 ^ (2 * m) % 256 / 16 % 4
+  dibit-1 = let e : 2 * (m + 4 - (1 + 1)) ≡ 2 * m + 4 = omega arith in rw (e, shift-more a (2 * m) 4) (omega arith)
 
-  pair-2 : a / 2 ^ (2 * (m + 4 - (2 + 1))) % 4 ≡ a / 2 ^ (2 * m) % 256 / 4 % 4
-  pair-2 = let e : 2 * (m + 4 - (2 + 1)) ≡ 2 * m + 2 = omega arith in rw (e, shift-more a (2 * m) 2) (omega arith)
+  dibit-2 : a / 2 ^ (2 * (m + 4 - (2 + 1))) % 4 ≡ a / 2 ^ (2 * m) % 256 / 4 % 4
+  dibit-2 = let e : 2 * (m + 4 - (2 + 1)) ≡ 2 * m + 2 = omega arith in rw (e, shift-more a (2 * m) 2) (omega arith)
 
-  pair-3 : a / 2 ^ (2 * (m + 4 - (3 + 1))) % 4 ≡ a / 2 ^ (2 * m) % 256 % 4
-  pair-3 = let e : 2 * (m + 4 - (3 + 1)) ≡ 2 * m = omega arith in rw e (omega arith)
+  dibit-3 : a / 2 ^ (2 * (m + 4 - (3 + 1))) % 4 ≡ a / 2 ^ (2 * m) % 256 % 4
+  dibit-3 = let e : 2 * (m + 4 - (3 + 1)) ≡ 2 * m = omega arith in rw e (omega arith)
 
 module _ (m l : ℕ) (w : ℕ → ℕ) where
   abbrev byteOf : ℕ → ℕ
@@ -172,11 +172,11 @@ module _ (m l : ℕ) (w : ℕ → ℕ) where
   unfolding partsOf fourSymbols
   four-sum =
       let z : l + 0 ≡ l = omega arith in
-      let c0 = column 0 (λ r. byteOf r / 64) (omega arith) (λ r. omega arith) (λ r. pair-0 (w r) m) in
+      let c0 = column 0 (λ r. byteOf r / 64) (omega arith) (λ r. omega arith) (λ r. dibit-0 (w r) m) in
       let s0 = (λ k. first (sym z k)) ∙ c0 in
-      let s1 = column 1 (λ r. byteOf r / 16 % 4) (omega arith) (λ r. omega arith) (λ r. pair-1 (w r) m) in
-      let s2 = column 2 (λ r. byteOf r / 4 % 4) (omega arith) (λ r. omega arith) (λ r. pair-2 (w r) m) in
-      let s3 = column 3 (λ r. byteOf r % 4) (omega arith) (λ r. omega arith) (λ r. pair-3 (w r) m) in
+      let s1 = column 1 (λ r. byteOf r / 16 % 4) (omega arith) (λ r. omega arith) (λ r. dibit-1 (w r) m) in
+      let s2 = column 2 (λ r. byteOf r / 4 % 4) (omega arith) (λ r. omega arith) (λ r. dibit-2 (w r) m) in
+      let s3 = column 3 (λ r. byteOf r % 4) (omega arith) (λ r. omega arith) (λ r. dibit-3 (w r) m) in
       omega (arith, s0, s1, s2, s3)
     where
       first : ℕ → ℕ

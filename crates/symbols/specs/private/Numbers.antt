@@ -78,6 +78,6 @@ unfoldable pub quadPut : Quad → ℕ → List ℕ → List ℕ
 quadPut q o s = set (set (set (set s o (q .a)) (o + 2) (q .b)) (o + 4) (q .c)) (o + 6) (q .d)
 
 -- number j of the row of a frame's words with their bits at their places: of the lane j % 8 / 2, of the four, in the first or the second 32 of the
--- 64 symbols j / 8. The pilot's pair stands above an upper number's 62 bits, where it is no part of the word
+-- 64 symbols j / 8. The pilot's dibit stands above an upper number's 62 bits, where it is no part of the word
 unfoldable pub gatheredAt : List ℕ → ℕ → ℕ
 gatheredAt f j = gathered 32 (j / 8 * 63 + 3) (drop (j / 8 * 64 + j % 2 * 32) f) (j % 8 / 2)
