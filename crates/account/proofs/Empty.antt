@@ -3,7 +3,7 @@
 -- Assumes nothing.
 use mathlib.Core.Path.{_≡_, ap}
 use mathlib.Core.Logic.{_≢_}
-use Prim.Native.Nat.{ℕ}
+use Prim.Native.Nat.{ℕ, _+_, _^_}
 use native.Mathlib.Omega.{arith}
 use Rattle.account.specs.definitions.Account.{opened, ahead, over, frameEntered, lossEntered}
 use Rattle.account.specs.declared.Entry.{Entry}
@@ -24,13 +24,14 @@ unfolding frameEntered ahead over
 taken-stays e = let f : _≡_ {A = ℕ} 5 6 = ap (λ (x : Entry). x .account .expected) e in omega arith
 
 -- half the way round, 2^31 after the 5 that is expected, a frame and a loss are late
-pub half-way-late : (e : Entry) → (e ≡ frameEntered (opened 5) 2147483653 clean → e .refusal ≡ 10) × (e ≡ lossEntered (opened 5) 2147483653 → e .refusal ≡ 10)
+pub half-way-late : (e : Entry)
+    → (e ≡ frameEntered (opened 5) (5 + 2 ^ 31) clean → e .refusal ≡ 10) × (e ≡ lossEntered (opened 5) (5 + 2 ^ 31) → e .refusal ≡ 10)
 unfolding frameEntered lossEntered ahead
 half-way-late e = (ap (λ (x : Entry). x .refusal), ap (λ (x : Entry). x .refusal))
 
 -- and one before that they are not
-pub before-half-not-late : (e : Entry) → (e ≡ frameEntered (opened 5) 2147483652 clean → e .refusal ≢ 10) × (e ≡ lossEntered (opened 5) 2147483652
-    → e .refusal ≢ 10)
+pub before-half-not-late : (e : Entry)
+    → (e ≡ frameEntered (opened 5) (4 + 2 ^ 31) clean → e .refusal ≢ 10) × (e ≡ lossEntered (opened 5) (4 + 2 ^ 31) → e .refusal ≢ 10)
 unfolding frameEntered lossEntered ahead over
 before-half-not-late e = (λ f z. eleven (ap (λ (x : Entry). x .refusal) f) z, λ f z. eleven (ap (λ (x : Entry). x .refusal) f) z)
   where

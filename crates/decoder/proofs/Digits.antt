@@ -69,9 +69,9 @@ module _ (hi lo : ℕ) (h : hi < 2 ^ 62) (l : lo < 2 ^ 64) where
   more k {r} {x} {w} er ex ew = ap₂ bitXor er (ex ∙ ap (λ (d : ℕ). feedOf d k 0) ew) ∙ sym (remainder-above 16 k word (lit≤ tt))
 
   pub syndrome-law : (a b c d e f g : ℕ)
-      → a ≡ feedOf (lo / 65536 % 65536) 16 0 → b ≡ feedOf (lo / 4294967296 % 65536) 32 0 → c ≡ feedOf (lo / 281474976710656 % 65536) 48 0
-      → d ≡ feedOf (hi % 65536) 64 0 → e ≡ feedOf (hi / 65536 % 65536) 80 0 → f ≡ feedOf (hi / 4294967296 % 65536) 96 0
-      → g ≡ feedOf (hi / 281474976710656 % 65536) 112 0
+      → a ≡ feedOf (lo / 65536 % 65536) 16 0 → b ≡ feedOf (lo / 2 ^ 32 % 65536) 32 0 → c ≡ feedOf (lo / 2 ^ 48 % 65536) 48 0
+      → d ≡ feedOf (hi % 65536) 64 0 → e ≡ feedOf (hi / 65536 % 65536) 80 0 → f ≡ feedOf (hi / 2 ^ 32 % 65536) 96 0
+      → g ≡ feedOf (hi / 2 ^ 48 % 65536) 112 0
       → bitXor (bitXor (bitXor (bitXor (bitXor (bitXor (bitXor (lo % 65536) a) b) c) d) e) f) g ≡ remainder 126 (hi * 2 ^ 64 + lo)
   unfolding word
   syndrome-law a b c d e f g ea eb ec ed ee ef eg =

@@ -1,4 +1,14 @@
 // The account at its limits: what each entry is answered, a line each. The file stdout has what must come.
+
+// The largest number that a field holds.
+const LARGEST: u64 = 18446744073709551615;
+
+// The last number that a frame can have.
+const LAST: u32 = 4294967295;
+
+// Half the way round.
+const HALF: u32 = 1 << 31;
+
 fn tallies(clean: u64, one: u64, two: u64, flagged: u64) -> account::Tallies {
     account::Tallies {
         clean,
@@ -84,28 +94,22 @@ fn words() {
     frame(0, 0, tallies(0, 0, 0, 383999617), 0, tallies(0, 0, 0, 384));
     loss(0, 0, tallies(0, 0, 384000001, 0), 0);
     title(b"no sum wraps\n");
-    frame(18446744073709551615, 0, none, 0, tallies(384, 0, 0, 0));
-    frame(
-        0,
-        0,
-        tallies(0, 18446744073709551615, 0, 0),
-        0,
-        tallies(0, 1, 0, 383),
-    );
-    frame(0, 0, none, 0, tallies(18446744073709551615, 385, 0, 0));
+    frame(LARGEST, 0, none, 0, tallies(384, 0, 0, 0));
+    frame(0, 0, tallies(0, LARGEST, 0, 0), 0, tallies(0, 1, 0, 383));
+    frame(0, 0, none, 0, tallies(LARGEST, 385, 0, 0));
 }
 
 fn order() {
     let none = tallies(0, 0, 0, 0);
     title(b"10 before 11, 11 before 12\n");
-    frame(0, 0, none, 2147483648, tallies(384, 0, 0, 0));
-    frame(0, 0, none, 2147483647, tallies(384, 0, 0, 0));
-    frame(0, 0, none, 4294967295, tallies(0, 0, 0, 0));
-    frame(1000000, 0, none, 4294967295, tallies(0, 0, 0, 0));
+    frame(0, 0, none, HALF, tallies(384, 0, 0, 0));
+    frame(0, 0, none, HALF - 1, tallies(384, 0, 0, 0));
+    frame(0, 0, none, LAST, tallies(0, 0, 0, 0));
+    frame(1000000, 0, none, LAST, tallies(0, 0, 0, 0));
     frame(1000000, 0, none, 0, tallies(0, 0, 0, 0));
     frame(0, 0, none, 0, tallies(383, 0, 0, 0));
     frame(0, 0, none, 0, tallies(384, 1, 0, 0));
-    loss(1000001, 0, none, 4294967295);
+    loss(1000001, 0, none, LAST);
 }
 
 fn main() {

@@ -126,7 +126,7 @@ unfolding symbolFrom
 symbol-lt n l w i = value-lt 2 8 _ (λ k _. bit-lt (2 * n) _ _)
 
 record Digits (m l : ℕ) (w : ℕ → ℕ) (v : ℕ) : Type 0 where
-  pub first : v / 16777216 % 256 ≡ symbolFrom (m + 4) l w 0
+  pub first : v / 2 ^ 24 % 256 ≡ symbolFrom (m + 4) l w 0
   pub second : v / 65536 % 256 ≡ symbolFrom (m + 4) l w 1
   pub third : v / 256 % 256 ≡ symbolFrom (m + 4) l w 2
   pub fourth : v % 256 ≡ symbolFrom (m + 4) l w 3
@@ -200,14 +200,14 @@ symbol-on n l i w x h =
 pub fill-step : (n l : ℕ) (w : ℕ → ℕ) {out₀ out : List ℕ} (i v : ℕ) → i + 4 ≤ n → v ≡ fourSymbols (n - (i + 4)) (l + i) w
     → Filling (symbolFrom n l w) n out₀ out i
     → Filling (symbolFrom n l w) n out₀
-    (set (set (set (set out i (v / 16777216 % 256)) (i + 1) (v / 65536 % 256)) (i + 2) (v / 256 % 256)) (i + 3) (v % 256)) (i + 4)
+    (set (set (set (set out i (v / 2 ^ 24 % 256)) (i + 1) (v / 65536 % 256)) (i + 2) (v / 256 % 256)) (i + 3) (v % 256)) (i + 4)
 fill-step n l w {out₀} {out} i v h e F =
     let z : i + 3 + 1 ≡ i + 4 = omega arith in
     subst (Filling (symbolFrom n l w) n out₀ _) z
     (filling-at f (i + 3) (v % 256) (omega arith)
     (filling-at f (i + 2) (v / 256 % 256) (omega arith)
     (filling-step f (v / 65536 % 256)
-    (filling-step f (v / 16777216 % 256) F (omega arith) (D .first ∙ on 0 (omega arith) ∙ ap f (let y : i + 0 ≡ i = omega arith in y)))
+    (filling-step f (v / 2 ^ 24 % 256) F (omega arith) (D .first ∙ on 0 (omega arith) ∙ ap f (let y : i + 0 ≡ i = omega arith in y)))
     (omega arith) (D .second ∙ on 1 (omega arith)))
     (omega arith) (D .third ∙ on 2 (omega arith)))
     (omega arith) (D .fourth ∙ on 3 (omega arith)))
