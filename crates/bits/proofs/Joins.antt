@@ -13,7 +13,7 @@ use lib.Bits.{bitAnd, bitOr, and-mask, or-shifted}
 use lib.ListN.{length, getD, set, length-set}
 use lib.Seq.{getD-set-same, getD-set-other}
 use Rattle.bits.specs.private.Joins.{Put}
-use Rattle.bits.specs.definitions.Bits.{fieldAt, AllBytes}
+use Rattle.bits.specs.definitions.Bits.{AllBytes}
 use Rattle.bits.proofs.Value.{value-cong, value-digits}
 use Rattle.bits.proofs.Fields.{bytes-field}
 

@@ -1,20 +1,18 @@
 -- The remainder worked out by digits of 16 bits, two look-ups each.
 -- Assumes nothing.
-use mathlib.Core.Path.{_≡_, refl, sym, ap, ap₂, _∙_, subst}
+use mathlib.Core.Path.{_≡_, refl, sym, ap, ap₂, _∙_}
 use mathlib.Core.List.{List}
-use Prim.Native.Nat.{ℕ, zero, suc, _+_, _-_, _*_, _/_, _%_, _^_, _<_, _≤_}
-use native.Mathlib.Nat.{mod-lt, add-zero, zero-mul, div-one, div-div-eq-div-mul, pow-suc, suc-sub-suc, sub-zero}
+use Prim.Native.Nat.{ℕ, zero, _+_, _-_, _*_, _/_, _%_, _^_, _<_, _≤_}
+use native.Mathlib.Nat.{mod-lt, add-zero, zero-mul, div-one}
 use native.Mathlib.Omega.{arith}
 use lib.Arith.{digits-lt}
 use lib.Dec.{lit<, lit≤}
 use lib.ListN.{getD}
 use lib.Pow.{pow-pos, shr-shr, high, low, field, mod-mod-pow}
 use lib.Bits.{bitXor, xor-comm, xor-shifted}
-use Rattle.bch.specs.definitions.Code.{stepOf, feedOf, remainder, parityOf}
-use Rattle.bits.specs.definitions.Words.{wordOf}
-use Rattle.bch.specs.definitions.Word.{informationOf}
+use Rattle.bch.specs.definitions.Code.{feedOf, remainder}
 use Rattle.decoder_tables.specs.private.Tables.{IsRemainders}
-use Rattle.bch.proofs.Remainder.{feed-lt, feed-append, feed-xor, feed-plain, feed-low, remainder-above, remainder-own, remainder-lead}
+use Rattle.bch.proofs.Remainder.{feed-append, feed-xor, feed-plain, feed-low, remainder-above, remainder-own, remainder-lead}
 
 -- ---- by digits of 16 bits
 

@@ -3,19 +3,15 @@
 use mathlib.Core.Path.{_≡_, sym, ap, _∙_, subst}
 use mathlib.Core.List.{List}
 use Prim.Native.Nat.{ℕ, _+_, _-_, _*_, _/_, _%_, _^_, _<_}
-use native.Mathlib.Omega.{arith}
 use lib.Arith.{digits-div, digits-mod}
 use lib.ListN.{getD}
 use lib.Bits.{bitXor, xor-block, xor-lt}
-use Rattle.bits.specs.definitions.Words.{wordOf}
-use Rattle.bch.specs.definitions.Code.{remainder, parityOf, coded, flipped}
+use Rattle.bch.specs.definitions.Code.{remainder, coded, flipped}
 use Rattle.decoder.specs.definitions.Mend.{mend, mended}
-use Rattle.bch.specs.definitions.Word.{informationOf}
 use Rattle.decoder.specs.definitions.Word.{decoded}
 use Rattle.decoder_tables.specs.private.Tables.{IsSingleBits}
 use Rattle.decoder.specs.private.Answer.{Answers}
 use Rattle.decoder.specs.declared.Mend.{Mend}
-use Rattle.bch.proofs.Remainder.{remainder-lt}
 use Rattle.decoder.proofs.Patterns.{answers-unique, mend-answers}
 
 -- ---- a bit flipped

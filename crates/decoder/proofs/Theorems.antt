@@ -2,22 +2,21 @@
 -- Assumes nothing.
 use mathlib.Core.Path.{_≡_, refl, sym, ap, _∙_, subst}
 use mathlib.Core.Logic.{inl, inr}
-use Prim.Native.Nat.{ℕ, zero, _+_, _*_, _%_, _^_, _<_}
-use native.Mathlib.Nat.{mod-lt, zero-add, div-add-mod'}
+use Prim.Native.Nat.{ℕ, _+_, _*_, _^_, _<_}
+use native.Mathlib.Nat.{mod-lt}
 use native.Mathlib.Omega.{arith}
 use native.Mathlib.Decide.{ℕ-discrete, decLt}
-use lib.Arith.{digits-div, digits-lt}
 use lib.Dec.{lit<}
 use lib.ListN.{getD}
 use lib.Pow.{shr-lt}
-use lib.Bits.{bitXor, xor-block, xor-comm, xor-lt, xor-self, xor-shifted}
+use lib.Bits.{bitXor, xor-comm, xor-lt, xor-self}
 use Rattle.bits.specs.definitions.Bits.{bitOf, count}
 use Rattle.bits.specs.definitions.Words.{wordOf, wordAt}
 use Rattle.bits.proofs.Tabulate.{getD-tabulate}
 use Rattle.bits.proofs.Words.{word-lt, word-join, row-at}
-use Rattle.bits.proofs.Xor.{xor-assoc, xor-cancel, xor-zero-eq}
+use Rattle.bits.proofs.Xor.{xor-assoc, xor-cancel}
 use Rattle.bits.proofs.Weight.{weight}
-use Rattle.bch.specs.definitions.Code.{CodeWord, multiple, distance, remainder, parityOf, coded}
+use Rattle.bch.specs.definitions.Code.{CodeWord, multiple, distance, remainder, coded}
 use Rattle.decoder.specs.definitions.Mend.{mend, mended, flagOf}
 use Rattle.bch.specs.definitions.Word.{informationOf, codedFrame}
 use Rattle.decoder.specs.definitions.Word.{decoded, mendedFrame, flagsOf}
@@ -27,7 +26,7 @@ use Rattle.decoder.specs.statements.Word.{WordCalls, FrameCalls}
 use Rattle.decoder.specs.declared.Mend.{Mend}
 use Rattle.decoder.specs.declared.Mend.the-variants.{Clean, One, Two, Flagged}
 use Rattle.bch.proofs.Theorems.{sent-is-code}
-use Rattle.bch.proofs.Remainder.{remainder-lt, remainder-xor, remainder-own, remainder-lead, remainder-code, remainder-code-xor, code-lt}
+use Rattle.bch.proofs.Remainder.{remainder-xor, remainder-code, remainder-code-xor, code-lt}
 use Rattle.decoder.proofs.Patterns.{mask, mended-mask, remainder-mask, answers-unique, mend-answers, mend-code}
 use Rattle.decoder.proofs.Distance.{distance-weight, distance-comm, distance-through, light-pattern, mask-lt, mask-weight, flag-pattern, code-apart}
 
