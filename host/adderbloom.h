@@ -15,10 +15,10 @@
 
 /* The version of this header and of the archive that comes with it. Any change of what a host was told raises the first number, an addition the second,
  * everything else the third. */
-#define LR800_VERSION_MAJOR 1
+#define LR800_VERSION_MAJOR 2
 #define LR800_VERSION_MINOR 0
 #define LR800_VERSION_PATCH 0
-#define LR800_VERSION "1.0.0"
+#define LR800_VERSION "2.0.0"
 
 #ifdef __cplusplus
 extern "C" {
@@ -26,11 +26,12 @@ extern "C" {
 
 /* ---- Refusals ---- */
 
-/* Where a call answers a refusal's number, 0 says that nothing was refused; any other is the lowest of those that apply, and a refused call changes nothing,
- * except that a record refused in a run stops the run. */
+/* Where a call answers a refusal's number, it is the lowest of those that apply, and a refused call changes nothing, except that bytes refused in a run stop
+ * the run. 0 says that none of these numbers applies: the call has done its work, but for lr800_run_step, which also answers 0 where it stops a run for
+ * something that has no number. Whether a run goes on is told by its phase. */
 enum {
-  LR800_DONE = 0, /* nothing was refused; whether a run goes on is told by its phase */
-  /* by lr800_send, lr800_receive, and 2 by lr800_run_step, 4 by lr800_account_enter */
+  LR800_DONE = 0, /* no number applies; whether a run goes on is told by its phase */
+  /* by lr800_send, lr800_receive, and 4 by lr800_account_enter */
   LR800_WRONG_INPUT_LENGTH = 1,   /* input is not LR800_LANES bytes long (sending), LR800_FRAME (receiving) */
   LR800_WRONG_STORE_LENGTH = 2,   /* the store is not LR800_STORE bytes long */
   LR800_WRONG_OUTPUT_LENGTH = 3,  /* output is not LR800_FRAME bytes long (sending), LR800_LANES (receiving) */
@@ -44,7 +45,9 @@ enum {
   /* by lr800_account_enter, and 10 and 11 by lr800_account_lose and lr800_run_step */
   LR800_LATE = 10,                /* the frame's number is late: 2^31 or more after the expected one, round 2^32 */
   LR800_ABOVE_LIMIT = 11,         /* after the entry, accepted or missing frames would stand above 1,000,000, or some tally above 384,000,000 */
-  LR800_WRONG_TALLIES = 12        /* the frame's tallies do not add up to 384: some of its flag bytes are above 3 */
+  LR800_WRONG_TALLIES = 12,       /* the frame's tallies do not add up to 384: some of its flag bytes are above 3 */
+  /* by lr800_run_step */
+  LR800_MORE_THAN_ONE = 22        /* more bytes than one record: more stand behind a whole record of lawful length, version and kind */
 };
 
 /* What a refusal's number says, as one line of text with no 0A. Any number is lawful. */
@@ -63,6 +66,7 @@ static inline const char *lr800_refusal_text(uint32_t number) {
   case LR800_LATE: return "the frame's number is late";
   case LR800_ABOVE_LIMIT: return "accepted or missing frames or a tally would stand above the limit";
   case LR800_WRONG_TALLIES: return "the frame's tallies do not add up to 384";
+  case LR800_MORE_THAN_ONE: return "more bytes than one record";
   default: return "no refusal has this number";
   }
 }
@@ -104,8 +108,7 @@ void lr800_account_open(lr800_account *account, uint32_t start);
 
 /* Enters a frame that was received, by its number and its flag bytes: the frames of a gap before it are missing. Answers 0, 4, 10, 11 or 12; a
  * frame that is refused was not measured, and the host must stop the run: give lr800_verdict a `stopped` other than 0.
- * A frame that is refused here has moved the store that was lent to lr800_receive: only a copy made before can undo that. lr800_run_step keeps this rule
- * itself. */
+ * A frame that is refused here has moved the store that was lent to lr800_receive: only a copy made before can undo that. */
 uint32_t lr800_account_enter(lr800_account *account, uint32_t number, const uint8_t *flags, size_t flags_length);
 
 /* Enters a frame that lr800_receive refused by 5 as a loss: it is missing, and the frames of a gap before it. Answers 0, 10 or 11; where it is refused the
@@ -135,13 +138,13 @@ static inline uint32_t lr800_account_verdict(const lr800_account *account, uint3
 #define LR800_ORDER_BYTES 18   /* of an order's record */
 #define LR800_FRAME_BYTES 6154 /* of a frame's record, the longest */
 
-/* What stands at a place. */
+/* What stands at a place. These are not the capture's kind bytes: there an order is 0 and a frame 1, here 0 is none, 1 an order and 2 a frame. */
 enum { LR800_RECORD_NONE = 0, LR800_RECORD_ORDER = 1, LR800_RECORD_FRAME = 2 };
 
 /* A record read. What a kind does not have is 0. */
 typedef struct lr800_record {
   uint32_t refusal; /* 6 to 9, or 0 */
-  uint32_t kind;    /* LR800_RECORD_NONE at the end and where the record is refused, LR800_RECORD_ORDER, LR800_RECORD_FRAME */
+  uint32_t kind;    /* LR800_RECORD_NONE at the end and where the record is refused, LR800_RECORD_ORDER, LR800_RECORD_FRAME: not the capture's kind byte */
   uint32_t number;  /* the frame's number; of an order, that of the first frame ordered */
   uint32_t asked;   /* of an order: frames asked */
   uint32_t allowed; /* of an order: flagged words allowed */
@@ -157,12 +160,13 @@ lr800_record lr800_read(const uint8_t *capture, size_t capture_length, size_t pl
  * not lawful. A host that reads an input asks for more until it has as many as are wanted, or the input ends, and steps over what it has. */
 size_t lr800_wanted(const uint8_t *piece, size_t piece_length);
 
-/* ---- A whole run: the host gives every byte of a capture, in turn, and says where reading failed; every other rule is kept here ---- */
+/* ---- A whole run: the host gives every byte of a capture, record by record, and says where reading failed; every other rule is kept here ---- */
 
-/* Where a run stands. Any phase above LR800_STOPPED is taken for it, and is LR800_STOPPED after a step that does not answer 2. */
+/* Where a run stands. Any phase above LR800_STOPPED is taken for it, and is LR800_STOPPED after a step. */
 enum { LR800_UNORDERED = 0, LR800_GOING = 1, LR800_STOPPED = 2 };
 
-/* A run: its phase, the order's figures and the account. Any numbers are lawful. All zero is a run before its first record. */
+/* A run: its phase, the order's figures and the account. Any numbers are lawful. All zero is a run before its first record. It has no lanes and no store: a
+ * host that wants the lanes calls lr800_receive. */
 typedef struct lr800_run {
   uint32_t phase;
   uint32_t asked;
@@ -173,16 +177,15 @@ typedef struct lr800_run {
 /* A run before its first record. */
 void lr800_run_open(lr800_run *run);
 
-/* One record's bytes. What follows a whole record is not looked at: it must begin the next piece, since bytes that are never given are not measured, and
- * PASS does not speak of them. No bytes are no record. The store is the run's own: lend it to every step of the run, and to nothing else; the first order
- * clears it.
- * The first order opens the account; a frame is received and entered, or without lock entered as a loss; a refused record or entry, a second order and a
- * frame before any order stop the run, and nothing else changes. A stopped run changes no more.
- * Answers 2, and nothing is changed: the piece was not taken, give it again with a whole store; else 6 to 11, by which the record or its entry (of a frame
- * without lock: the loss) was refused, and the run is stopped; else 0. A second order and a frame before any order have no number and answer 0: whether a
- * run is stopped is told by its phase. A frame without lock answers 0 once its loss is entered, never 5: it shows in account.missing. Whatever comes to a
- * stopped run answers 0, or 2. */
-uint32_t lr800_run_step(lr800_run *run, uint8_t *store, size_t store_length, const uint8_t *piece, size_t piece_length);
+/* One record's bytes: all of them, and nothing more. No bytes are no record: they change no figure, stop nothing and answer 0.
+ * The first order opens the account; a frame is received and entered, or without lock entered as a loss; a refused record or entry, bytes behind a record, a
+ * second order and a frame before any order stop the run, and nothing else changes. A stopped run changes no more.
+ * Answers 6 to 9, by which the record at the beginning is refused, whatever stands behind; else 22, LR800_MORE_THAN_ONE, where more bytes stand behind it:
+ * nothing is entered then, so that neither 10 nor 11 applies, and no byte is passed over unnoticed; else 10 or 11, by which its entry (of a frame without
+ * lock: the loss) is refused; else 0. Any of these but 0 has stopped the run.
+ * 0 does not say that the run goes on, its phase does: a second order and a frame before any order have no number, stop the run and answer 0, and whatever
+ * comes to a stopped run answers 0. A frame without lock answers 0 once its loss is entered, never 5: it shows in account.missing. */
+uint32_t lr800_run_step(lr800_run *run, const uint8_t *piece, size_t piece_length);
 
 /* Stops a run, as a host must whose input could not be read to its end: a read that fails is no end. Its figures and its account stay, and its verdict is
  * LR800_NOT_MEASURED. */
@@ -197,6 +200,16 @@ uint32_t lr800_run_verdict(lr800_run run);
 /* The report of a run, once every byte was given, as text: eight lines, each ended by one 0A, at the beginning of a buffer; no 00 is set behind it. Answers
  * how many bytes it takes. A buffer too small for it is not touched, and the answer is 0. */
 size_t lr800_run_report(lr800_run run, uint8_t *text, size_t text_length);
+
+/* ---- A whole capture in memory, in one call ---- */
+
+/* The report of a capture, as lr800_run_report leaves that of a run which was given each of its records in turn: at the beginning of a buffer, for which
+ * LR800_REPORT is room enough. Answers how many bytes it takes; a buffer too small for it is not touched, and the answer is 0. All bytes must be there: what
+ * could not be read to its end is no whole capture, and neither call can tell. */
+size_t lr800_examine(const uint8_t *capture, size_t capture_length, uint8_t *text, size_t text_length);
+
+/* Its verdict: LR800_NOT_MEASURED, LR800_PASS or LR800_FAIL. */
+uint32_t lr800_examine_verdict(const uint8_t *capture, size_t capture_length);
 
 /* the structs are laid out as in the archive, or this does not compile */
 typedef char lr800_account_has_56_bytes[sizeof(lr800_account) == 56 ? 1 : -1];

@@ -1,5 +1,6 @@
 /* A rig in small, to copy from. A stream of frames is sent, damaged on its way, received and entered in an account; then the frames are written down as a
- * capture, and a whole run is stepped over it. Every answer is looked at: the program ends with 1 at the first that is not what it must be.
+ * capture, which is examined in one call and stepped over record by record. Every answer is looked at: the program ends with 1 at the first that is not what
+ * it must be.
  *   cc example.c -ladderbloom -o example && ./example */
 #include "adderbloom.h"
 #include <inttypes.h>
@@ -172,6 +173,19 @@ static size_t write_capture(int left_out) {
     return (size_t)(to - capture);
 }
 
+static void print_report(const uint8_t *text, size_t written) {
+    must(written > 0, "there was no room for the report");
+    must(fwrite(text, 1, written, stdout) == written, "the report was not written"); /* no 00 stands behind it */
+}
+
+/* A capture that is in memory, all of it: one call says its verdict, and one its report. */
+static void examine_capture(const char *what, size_t length, uint32_t verdict) {
+    static uint8_t text[LR800_REPORT];
+    must(lr800_examine_verdict(capture, length) == verdict, "another verdict");
+    printf("\n%s\n", what);
+    print_report(text, lr800_examine(capture, length, text, sizeof text));
+}
+
 /* Stands for a file: the capture's bytes up to its length, and then the end, or a read that fails. */
 typedef struct {
     size_t length, place;
@@ -187,10 +201,10 @@ static long read_some(input *from, uint8_t *to, size_t count) {
     return (long)count;
 }
 
-/* A whole run. Two rules are left to the host: to give every byte in its turn, and to say where reading failed. */
+/* A capture that is read record by record. Two rules are left to the host: to give every byte in its turn, and to say where reading failed. */
 static void run_capture(const char *what, input from, uint32_t refused_by, uint32_t verdict) {
-    static uint8_t store[LR800_STORE], piece[LR800_FRAME_BYTES], text[LR800_REPORT];
-    size_t have, written;
+    static uint8_t piece[LR800_FRAME_BYTES], text[LR800_REPORT];
+    size_t have;
     long got;
     uint32_t answer = LR800_DONE;
     lr800_run run;
@@ -206,16 +220,26 @@ static void run_capture(const char *what, input from, uint32_t refused_by, uint3
             break;
         }
         if (have == 0) break; /* the end, between two records; an end within one is told by the step */
-        answer = lr800_run_step(&run, store, sizeof store, piece, have);
-        must(answer != LR800_WRONG_STORE_LENGTH, lr800_refusal_text(answer)); /* any other but LR800_DONE has stopped the run */
+        answer = lr800_run_step(&run, piece, have); /* any but LR800_DONE has stopped the run; so may LR800_DONE: the phase tells */
     }
     must(answer == refused_by, "a record was refused, or was not, or by another number");
-    written = lr800_run_report(run, text, sizeof text);
-    must(written > 0, "there was no room for the report");
     must(lr800_run_verdict(run) == verdict, "another verdict");
+    must(from.fails || lr800_examine_verdict(capture, from.length) == verdict, "another verdict than in one call");
     printf("\n%s\n", what);
     if (answer != LR800_DONE) printf("refused by %" PRIu32 ": %s\n", answer, lr800_refusal_text(answer));
-    must(fwrite(text, 1, written, stdout) == written, "the report was not written"); /* no 00 stands behind it */
+    print_report(text, lr800_run_report(run, text, sizeof text));
+}
+
+/* A host's slip: the order and the first frame as one piece. It is told, and nothing of it is entered. */
+static void run_two_at_once(const char *what) {
+    static uint8_t text[LR800_REPORT];
+    lr800_run run;
+    uint32_t answer;
+    lr800_run_open(&run);
+    answer = lr800_run_step(&run, capture, LR800_ORDER_BYTES + LR800_FRAME_BYTES);
+    must(answer == LR800_MORE_THAN_ONE && run.phase == LR800_STOPPED, "two records were taken for one");
+    printf("\n%s\nrefused by %" PRIu32 ": %s\n", what, answer, lr800_refusal_text(answer));
+    print_report(text, lr800_run_report(run, text, sizeof text));
 }
 
 static input whole(size_t length) {
@@ -230,12 +254,14 @@ int main(void) {
     receive_stream("the stream, damaged on its way:", FRAMES, LR800_PASS);
     printf("\n");
     receive_stream("the same, one frame without lock:", LOST, LR800_NOT_MEASURED);
-    run_capture("the capture of all frames as sent:", whole(write_capture(FRAMES)), LR800_DONE, LR800_PASS);
+    examine_capture("the capture of all frames as sent, in one call:", write_capture(FRAMES), LR800_PASS);
+    run_capture("the same, record by record:", whole(write_capture(FRAMES)), LR800_DONE, LR800_PASS);
     run_capture("the same without one of them:", whole(write_capture(LOST)), LR800_DONE, LR800_NOT_MEASURED);
     run_capture("all of them, the last cut short:", whole(write_capture(FRAMES) - 1), LR800_CUT_SHORT, LR800_NOT_MEASURED);
     broken = whole(write_capture(FRAMES));
     broken.fails = 1;
     run_capture("all of them, and then a read that fails:", broken, LR800_DONE, LR800_NOT_MEASURED);
+    run_two_at_once("the order and the first frame as one piece:");
     must(fflush(stdout) == 0, "not all of it was written");
     return 0;
 }

@@ -33,7 +33,7 @@ __attribute__((section("__libfuzzer_extra_counters")))
 #endif
 static uint8_t marks[1024];
 
-enum { READ_AS, RECEIVED, SENT, ENTERED, LOST, STEPPED, JUDGED, STEPS, PILOTS_WRONG, WORDS_ONE, WORDS_TWO, WORDS_FLAGGED, REPORTED };
+enum { READ_AS, RECEIVED, SENT, ENTERED, LOST, STEPPED, JUDGED, STEPS, PILOTS_WRONG, WORDS_ONE, WORDS_TWO, WORDS_FLAGGED, REPORTED, EXAMINED };
 
 static void mark(unsigned what, uint64_t value) {
     marks[(64 * what + (value < 63 ? value : 63)) % sizeof marks] = 1;
@@ -364,59 +364,44 @@ static int same_run(const lr800_run *a, const lr800_run *b) {
 }
 
 /* whether a step must stop a run, and by which number: by the calls that tell a record's refusal and that of its entry */
-static int stops(const lr800_run *run, const uint8_t *store, const uint8_t *piece, size_t length, uint32_t *number) {
+static int stops(const lr800_run *run, const uint8_t *piece, size_t length, uint32_t *number) {
     static uint8_t kept[LR800_STORE], lanes[LR800_LANES], flags[LR800_FLAGS];
     lr800_account account = run->account;
     *number = 0;
     if (run->phase >= LR800_STOPPED) return 0;
     lr800_record r = lr800_read(piece, length, 0);
-    *number = r.refusal;
-    if (r.kind == LR800_RECORD_NONE) return r.refusal != 0;
+    *number = r.refusal ? r.refusal : r.next < length ? LR800_MORE_THAN_ONE : 0;
+    if (*number || r.kind == LR800_RECORD_NONE) return *number != 0;
     if (run->phase == LR800_UNORDERED || r.kind == LR800_RECORD_ORDER) return (run->phase == LR800_GOING) == (r.kind == LR800_RECORD_ORDER);
-    memcpy(kept, store, LR800_STORE);
+    /* from whatever stands in the store: neither lock nor flags depend on it */
     uint32_t answer = lr800_receive(piece + r.symbols, LR800_FRAME, kept, sizeof kept, lanes, sizeof lanes, flags, sizeof flags);
     MUST(answer == 0 || answer == 5);
     *number = answer ? lr800_account_lose(&account, r.number) : lr800_account_enter(&account, r.number, flags, sizeof flags);
     return *number != 0;
 }
 
-/* a step, twice from the same beginning; and with a store of another length, which changes nothing. Answers what the step did */
-static uint32_t step(lr800_run *run, uint8_t *store, const uint8_t *piece, size_t length) {
-    static fence lent;
-    static uint8_t first_store[LR800_STORE];
+/* a step, twice from the same beginning. Answers what the step did */
+static uint32_t step(lr800_run *run, const uint8_t *piece, size_t length) {
     lr800_run before = *run, first = *run;
     uint32_t number;
-    int stopped_now = stops(run, store, piece, length, &number);
-    MUST(number == 0 || (number >= 6 && number <= 11 && stopped_now));
+    int stopped_now = stops(run, piece, length, &number);
+    MUST(number == 0 || (((number >= 6 && number <= 11) || number == LR800_MORE_THAN_ONE) && stopped_now));
     for (int again = 0; again < 2; again++) {
         lr800_run after = before;
-        uint8_t *kept = lend_filled(&lent, LR800_STORE, store, LR800_STORE);
-        MUST(lr800_run_step(&after, kept, LR800_STORE, piece, length) == number);
-        check_fence(&lent);
+        MUST(lr800_run_step(&after, piece, length) == number);
         MUST(after.phase <= LR800_STOPPED);
-        if (again) MUST(same_run(&after, &first) && same_bytes(kept, first_store, LR800_STORE));
+        if (again) MUST(same_run(&after, &first));
         first = after;
-        memcpy(first_store, kept, LR800_STORE);
     }
-    mark(STEPPED, 3 * number + first.phase);
+    mark(STEPPED, number == LR800_MORE_THAN_ONE ? 60 : 3 * number + first.phase);
     MUST((before.phase < LR800_STOPPED && first.phase == LR800_STOPPED) == stopped_now);
-    if (length == 0 || before.phase >= LR800_STOPPED) MUST(same_run(&before, &first) && same_bytes(store, first_store, LR800_STORE));
+    if (length == 0 || before.phase >= LR800_STOPPED) MUST(same_run(&before, &first));
     if (before.phase < LR800_STOPPED && first.phase >= LR800_STOPPED) {
         lr800_run stopped = before;
         lr800_run_stop(&stopped);
-        MUST(same_run(&stopped, &first) && same_bytes(store, first_store, LR800_STORE)); /* and nothing else changes */
-    }
-    if (before.phase == LR800_UNORDERED && first.phase == LR800_GOING) MUST(all_are(first_store, LR800_STORE, 0));
-    size_t other = some_length(STORE_LENGTH, LR800_STORE - 1);
-    if (other != LR800_STORE) {
-        lr800_run after = before;
-        uint8_t *kept = lend(&lent, other, 0x3C);
-        MUST(lr800_run_step(&after, kept, other, piece, length) == 2);
-        MUST(after.phase == before.phase && same_run(&after, &before) && all_are(kept, other, 0x3C));
-        check_fence(&lent);
+        MUST(same_run(&stopped, &first)); /* and nothing else changes */
     }
     *run = first;
-    memcpy(store, first_store, LR800_STORE);
     return number;
 }
 
@@ -427,10 +412,10 @@ static void check_kept(const lr800_run *run) {
     if (run->phase == LR800_UNORDERED) MUST(!run->asked && !run->allowed && !a->expected && !a->accepted && !a->missing);
 }
 
-/* Three ways to run the capture. Each answers the number by which the run was stopped, or 0. */
+/* Three ways to run the capture, beside the one call that examines it. Each answers the number by which the run was stopped, or 0. */
 
 /* the host cuts the input into records by what is wanted */
-static uint32_t run_by_wanted(lr800_run *run, uint8_t *store) {
+static uint32_t run_by_wanted(lr800_run *run) {
     static fence piece;
     size_t place = 0;
     uint64_t steps = 0;
@@ -445,36 +430,43 @@ static uint32_t run_by_wanted(lr800_run *run, uint8_t *store) {
         }
         if (have == 0) break;
         MUST(number == 0);
-        number = step(run, store, lend_filled(&piece, have, from_place(place), have), have);
+        number = step(run, lend_filled(&piece, have, from_place(place), have), have);
         check_fence(&piece);
         check_kept(run);
         place += have;
         steps++;
     }
     mark(STEPS, steps * 3 + run->phase);
-    MUST(step(run, store, NULL, 0) == 0);
+    MUST(step(run, NULL, 0) == 0);
     return number;
 }
 
-/* the host goes by the reader's places, and gives all that is left */
-static uint32_t run_by_places(lr800_run *run, uint8_t *store) {
+/* the host goes by the reader's places, and gives all that is left where a record is refused. More than a record stops a run */
+static uint32_t run_by_places(lr800_run *run) {
     uint32_t number;
     for (size_t place = 0;;) {
         lr800_record r = read_at(place);
-        number = step(run, store, from_place(place), capture_length - place);
+        size_t left = capture_length - place;
+        if (run->phase < LR800_STOPPED && r.kind != LR800_RECORD_NONE && r.next - place < left) {
+            lr800_run more = *run;
+            MUST(step(&more, from_place(place), left) == LR800_MORE_THAN_ONE);
+            more = *run;
+            MUST(step(&more, from_place(place), r.next - place + 1) == LR800_MORE_THAN_ONE);
+        }
+        number = step(run, from_place(place), r.refusal ? left : r.next - place);
         MUST(r.refusal == 0 || number == r.refusal);
         MUST(number == 0 || run->phase == LR800_STOPPED);
         if (run->phase >= LR800_STOPPED || r.kind == LR800_RECORD_NONE) break;
         MUST(r.next > place);
         place = r.next;
     }
-    if (run->phase >= LR800_STOPPED) MUST(step(run, store, capture, capture_length) == 0); /* told once */
+    if (run->phase >= LR800_STOPPED) MUST(step(run, capture, capture_length) == 0); /* told once */
     return number;
 }
 
 /* the host keeps every rule by itself */
-static uint32_t run_by_hand(lr800_run *run, uint8_t *store) {
-    static uint8_t kept[LR800_STORE], lanes[LR800_LANES], flags[LR800_FLAGS];
+static uint32_t run_by_hand(lr800_run *run) {
+    static uint8_t store[LR800_STORE], lanes[LR800_LANES], flags[LR800_FLAGS];
     size_t place = 0;
     uint32_t number = 0;
     while (run->phase != LR800_STOPPED) {
@@ -486,20 +478,36 @@ static uint32_t run_by_hand(lr800_run *run, uint8_t *store) {
             lr800_account_open(&run->account, r.number);
             memset(store, 0, LR800_STORE);
         } else if (r.kind == LR800_RECORD_FRAME && run->phase == LR800_GOING) {
-            memcpy(kept, store, LR800_STORE);
-            uint32_t answer = lr800_receive(from_place(r.symbols), LR800_FRAME, kept, sizeof kept, lanes, sizeof lanes, flags, sizeof flags);
+            uint32_t answer = lr800_receive(from_place(r.symbols), LR800_FRAME, store, sizeof store, lanes, sizeof lanes, flags, sizeof flags);
             MUST(answer == 0 || answer == 5);
             number = answer ? lr800_account_lose(&run->account, r.number) : lr800_account_enter(&run->account, r.number, flags, sizeof flags);
             if (number != 0) run->phase = LR800_STOPPED;
-            else memcpy(store, kept, LR800_STORE);
         } else run->phase = LR800_STOPPED, number = r.refusal;
     }
     return number;
 }
 
+/* the report and the verdict of the capture in one call, into any room, beside those of its run */
+static void check_examine(const lr800_run *run) {
+    static fence text;
+    uint8_t expected[LR800_REPORT];
+    size_t n = lr800_run_report(*run, expected, sizeof expected);
+    size_t rooms[] = {n, n - 1, n + 1, 0, LR800_REPORT, (size_t)(control[ROOM] % 512)};
+    MUST(n > 0);
+    for (unsigned i = 0; i < sizeof rooms / sizeof rooms[0]; i++) {
+        uint8_t *to = lend(&text, rooms[i], 0x3C);
+        size_t answer = lr800_examine(capture, capture_length, to, rooms[i]);
+        MUST(answer == (rooms[i] < n ? 0 : n));
+        MUST(same_bytes(to, expected, answer) && (rooms[i] == 0 || all_are(to + answer, rooms[i] - answer, 0x3C)));
+        check_fence(&text);
+    }
+    uint32_t verdict = lr800_examine_verdict(capture, capture_length);
+    mark(EXAMINED, verdict);
+    MUST(verdict == lr800_run_verdict(*run));
+}
+
 static void check_runs(void) {
-    static uint8_t stores[3][LR800_STORE];
-    static uint32_t (*const ways[])(lr800_run *, uint8_t *) = {run_by_wanted, run_by_places, run_by_hand};
+    static uint32_t (*const ways[])(lr800_run *) = {run_by_wanted, run_by_places, run_by_hand};
     lr800_run runs[3];
     uint32_t numbers[3];
     for (int way = 0; way < 3; way++) {
@@ -507,11 +515,11 @@ static void check_runs(void) {
         lr800_run_open(&runs[way]);
         MUST(runs[way].phase == LR800_UNORDERED);
         check_kept(&runs[way]);
-        memset(stores[way], 0x77, LR800_STORE); /* the first order clears it */
-        numbers[way] = ways[way](&runs[way], stores[way]);
-        if (way > 0) MUST(numbers[way] == numbers[0] && same_run(&runs[way], &runs[0]) && same_bytes(stores[way], stores[0], LR800_STORE));
+        numbers[way] = ways[way](&runs[way]);
+        if (way > 0) MUST(numbers[way] == numbers[0] && same_run(&runs[way], &runs[0]));
     }
     check_report(runs[0]);
+    check_examine(&runs[0]);
     lr800_run_stop(&runs[0]);
     MUST(runs[0].phase == LR800_STOPPED && same_account(&runs[0].account, &runs[1].account));
     MUST(runs[0].asked == runs[1].asked && runs[0].allowed == runs[1].allowed);
@@ -520,7 +528,6 @@ static void check_runs(void) {
 
 int LLVMFuzzerTestOneInput(const uint8_t *data, size_t size) {
     static fence lent;
-    static uint8_t store[LR800_STORE];
     static int begun;
     if (size < CONTROL || size > LONGEST) return 0;
     if (!begun) learn_pilots();
@@ -546,15 +553,13 @@ int LLVMFuzzerTestOneInput(const uint8_t *data, size_t size) {
     check_account(&run.account);
     verdict_on(&run, (uint32_t)control[STOPPED]);
     check_report(run);
-    memset(store, 0x77, sizeof store);
     lr800_run going = run;
-    step(&run, store, capture, capture_length);
+    step(&run, capture, capture_length);
     check_report(run);
     if (first.kind == LR800_RECORD_FRAME) { /* and of a run that goes on, the first frame as far ahead of the expected one as the control says */
         going.phase = LR800_GOING;
         going.account.expected = first.number - ((uint32_t)control[GOT] - (uint32_t)control[ACCOUNT]);
-        memset(store, 0x77, sizeof store);
-        step(&going, store, from_place(first.symbols - 10), LR800_FRAME_BYTES);
+        step(&going, from_place(first.symbols - 10), LR800_FRAME_BYTES);
     }
 
     MUST(same_bytes(capture, data + CONTROL, capture_length)); /* a lent capture is only read */

@@ -13,15 +13,21 @@ static void must(int holds, const char *what, uint32_t number) {
     wrong = 1;
 }
 
-/* each its own, the last for every number that is none */
+static int is_number(uint32_t n) {
+    return n <= LR800_WRONG_TALLIES || n == LR800_MORE_THAN_ONE;
+}
+
+/* each its own, and one for every number that is none */
 static void try_texts(void) {
-    enum { NONE = LR800_WRONG_TALLIES + 1 };
-    for (uint32_t n = 0; n <= NONE; n++) {
+    static const uint32_t far[] = {LR800_MORE_THAN_ONE + 256, (uint32_t)1 << 31, UINT32_MAX};
+    const char *none = lr800_refusal_text(UINT32_MAX);
+    for (uint32_t n = 0; n <= 2 * LR800_MORE_THAN_ONE; n++) {
         const char *text = lr800_refusal_text(n);
         must(text[0] != '\0' && strchr(text, '\n') == NULL, "not one line of text", n);
-        for (uint32_t m = 0; m < n; m++) must(strcmp(text, lr800_refusal_text(m)) != 0, "the text of a number before it", n);
+        must((strcmp(text, none) == 0) == !is_number(n), "a number that is none has a text of its own, or one that is has none", n);
+        for (uint32_t m = 0; m < n; m++) must(!is_number(n) || strcmp(text, lr800_refusal_text(m)) != 0, "the text of a number before it", n);
     }
-    must(strcmp(lr800_refusal_text(NONE), lr800_refusal_text(UINT32_MAX)) == 0, "another text than that of a number that is none", UINT32_MAX);
+    for (int i = 0; i < 3; i++) must(strcmp(lr800_refusal_text(far[i]), none) == 0, "another text than that of a number that is none", far[i]);
 }
 
 /* three frames; then every number that counts is another once, and at last tallies whose total is right only round 2^64 */

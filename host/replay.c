@@ -15,10 +15,11 @@
 #endif
 enum { GUARD_BYTE = 0xA5 };
 
-enum { SEND, RECEIVE, ACCOUNT_OPEN, ACCOUNT_ENTER, ACCOUNT_LOSE, VERDICT, READ, WANTED, RUN_OPEN, RUN_STEP, RUN_STOP, RUN_VERDICT, RUN_REPORT, FUNCTIONS,
-       READ_KIND = FUNCTIONS, STEP_PHASE, TALLIES };
+enum { SEND, RECEIVE, ACCOUNT_OPEN, ACCOUNT_ENTER, ACCOUNT_LOSE, VERDICT, READ, WANTED, RUN_OPEN, RUN_STEP, RUN_STOP, RUN_VERDICT, RUN_REPORT, EXAMINE,
+       EXAMINE_VERDICT, FUNCTIONS, READ_KIND = FUNCTIONS, STEP_PHASE, TALLIES };
 
-/* how often each number occurred that the header lists; of the reports, none, the shortest and the longest */
+/* how often each number occurred that the header lists; of a run's reports, none, the shortest and the longest; of captures', none, the shortest and that of no
+ * bytes */
 enum { MOST_NUMBERS = 8 };
 typedef struct {
     const char *name;
@@ -38,11 +39,13 @@ static tally tallies[TALLIES] = {
     [READ_KIND] = {.name = "lr800_read found", .count = 3, .numbers = {LR800_RECORD_NONE, LR800_RECORD_ORDER, LR800_RECORD_FRAME}},
     [WANTED] = {.name = "lr800_wanted answered", .count = 3, .numbers = {4, LR800_ORDER_BYTES, LR800_FRAME_BYTES}},
     [RUN_OPEN] = {.name = "lr800_run_open opened", .count = 1, .numbers = {0}},
-    [RUN_STEP] = {.name = "lr800_run_step answered", .count = 8, .numbers = {0, 2, 6, 7, 8, 9, 10, 11}},
+    [RUN_STEP] = {.name = "lr800_run_step answered", .count = 8, .numbers = {0, 6, 7, 8, 9, 10, 11, 22}},
     [STEP_PHASE] = {.name = "lr800_run_step left phase", .count = 3, .numbers = {LR800_UNORDERED, LR800_GOING, LR800_STOPPED}},
     [RUN_STOP] = {.name = "lr800_run_stop left phase", .count = 1, .numbers = {LR800_STOPPED}},
     [RUN_VERDICT] = {.name = "lr800_run_verdict answered", .count = 3, .numbers = {LR800_NOT_MEASURED, LR800_PASS, LR800_FAIL}},
     [RUN_REPORT] = {.name = "lr800_run_report answered", .count = 3, .numbers = {0, 74, 203}},
+    [EXAMINE] = {.name = "lr800_examine answered", .count = 3, .numbers = {0, 74, 80}},
+    [EXAMINE_VERDICT] = {.name = "lr800_examine_verdict answered", .count = 3, .numbers = {LR800_NOT_MEASURED, LR800_PASS, LR800_FAIL}},
 };
 
 static unsigned long calls, in_runs;
@@ -172,7 +175,7 @@ static void count(int which, uint64_t number) {
             return;
         }
     t->others++;
-    if (which != RUN_REPORT) stop(t->name, "a number that is not in its list");
+    if (which != RUN_REPORT && which != EXAMINE) stop(t->name, "a number that is not in its list");
 }
 
 /* the answer must be the one told, and is counted */
@@ -263,14 +266,12 @@ static void replay_run(int function) {
     lr800_run *run = (lr800_run *)(void *)block.bytes, before = take_run(), after;
     *run = before;
     if (function == RUN_STEP) {
-        buffer store = take_buffer(), piece = take_buffer();
+        buffer piece = take_buffer();
         uint32_t right = take32();
         after = take_run();
-        take_after(store);
-        answered(function, name, lr800_run_step(run, lent(store), store.lent.length, lent(piece), piece.lent.length), right);
-        if (right != 2) count(STEP_PHASE, after.phase);
+        answered(function, name, lr800_run_step(run, lent(piece), piece.lent.length), right);
+        count(STEP_PHASE, after.phase);
         in_runs += after.account.accepted > before.account.accepted;
-        compare(store, name, "left another store");
         compare(piece, name, "wrote the piece");
     } else {
         after = take_run();
@@ -297,6 +298,24 @@ static void replay_run_report(void) {
     take_after(text);
     answered(RUN_REPORT, "lr800_run_report", lr800_run_report(run, lent(text), text.lent.length), right);
     compare(text, "lr800_run_report", "left another text");
+}
+
+static void replay_examine(void) {
+    const char *name = "lr800_examine";
+    buffer capture = take_buffer(), text = take_buffer();
+    size_t right = take_size();
+    take_after(text);
+    answered(EXAMINE, name, lr800_examine(lent(capture), capture.lent.length, lent(text), text.lent.length), right);
+    compare(capture, name, "wrote the capture");
+    compare(text, name, "left another text");
+}
+
+static void replay_examine_verdict(void) {
+    const char *name = "lr800_examine_verdict";
+    buffer capture = take_buffer();
+    uint32_t right = take32();
+    answered(EXAMINE_VERDICT, name, lr800_examine_verdict(lent(capture), capture.lent.length), right);
+    compare(capture, name, "wrote the capture");
 }
 
 /* a replay that did not meet every number has shown nothing of those that it left out */
@@ -326,6 +345,8 @@ int main(void) {
         case RUN_STOP: replay_run(function); break;
         case RUN_VERDICT: replay_run_verdict(); break;
         case RUN_REPORT: replay_run_report(); break;
+        case EXAMINE: replay_examine(); break;
+        case EXAMINE_VERDICT: replay_examine_verdict(); break;
         default: stop("the record", "is of no function");
         }
         calls++;

@@ -139,6 +139,21 @@ impl<'a> Reader<'a> {
     }
 }
 
+/// More bytes than one record. A house number: 01 has none for it.
+pub const MORE_THAN_ONE: u32 = 22;
+
+/// The answer to bytes that must be one record and no more. What refuses the record itself has a
+/// lower number and comes first, whatever stands behind it.
+pub fn lone(bytes: &[u8]) -> Answer<'_> {
+    let mut reader = Reader::new(bytes);
+    match reader.next_record() {
+        Answer::Order(_) | Answer::Frame { .. } if reader.place() < bytes.len() => {
+            Answer::Refused(MORE_THAN_ONE)
+        }
+        answer => answer,
+    }
+}
+
 /// How many bytes of a record to ask for, by those of it that are there: where the length is not
 /// lawful, no more than those that tell so.
 pub fn wanted(piece: &[u8]) -> usize {

@@ -1,10 +1,8 @@
-//! A run as a host keeps it between calls: all of it numbers, any of which are lawful, and its store
-//! lent to each step.
+//! A run as a host keeps it between calls: all of it numbers, any of which are lawful.
 
 use crate::account::{opened, Account};
-use crate::capture::{Order, Reader};
-use crate::lanes::STORE_BYTES;
-use crate::run::{report, Run, Stop};
+use crate::capture::{lone, Order};
+use crate::run::{report, write_report, Run, Stop};
 
 /// Where a run stands; any other phase is taken for stopped.
 pub const UNORDERED: u32 = 0;
@@ -30,8 +28,8 @@ impl Kept {
         }
     }
 
-    /// With its store. Where an order began is not kept: once the account is open nothing asks.
-    fn run(&self, store: [u8; STORE_BYTES]) -> Run {
+    /// Where an order began is not kept: once the account is open nothing asks.
+    fn run(&self) -> Run {
         let order = Order {
             start: 0,
             asked: self.asked,
@@ -40,21 +38,16 @@ impl Kept {
         Run {
             order: (self.phase != UNORDERED).then_some(order),
             account: self.account,
-            store,
             // Why it stopped is not kept either; this has no number, so that none is told again.
             stop: (self.phase > GOING).then_some(Stop::ReadFailed),
         }
     }
 
-    /// Takes the record at the beginning of a piece. Returns 0; or 2, which changes nothing; or the
-    /// number by which the record or its entry is refused, where that stops the run.
-    pub fn step(&mut self, store: &mut [u8], piece: &[u8]) -> u32 {
-        let store: &mut [u8; STORE_BYTES] = match store.try_into() {
-            Ok(store) => store,
-            Err(_) => return 2,
-        };
-        let mut run = self.run(*store);
-        run.take(Reader::new(piece).next_record());
+    /// Takes a piece that must be one record and no more. Returns 0, or the number by which the
+    /// record or its entry is refused, or 22 for more bytes, where that stops the run.
+    pub fn step(&mut self, piece: &[u8]) -> u32 {
+        let mut run = self.run();
+        run.take(lone(piece));
         self.phase = match (run.stop, run.order) {
             (Some(_), _) => STOPPED,
             (None, Some(_)) => GOING,
@@ -64,7 +57,7 @@ impl Kept {
         if let Some(order) = run.order {
             (self.asked, self.allowed) = (order.asked, order.allowed);
         }
-        (self.account, *store) = (run.account, run.store);
+        self.account = run.account;
         run.stop.map_or(0, Stop::number)
     }
 
@@ -73,7 +66,7 @@ impl Kept {
     }
 
     pub fn verdict(&self) -> u32 {
-        self.run([0; STORE_BYTES]).verdict()
+        self.run().verdict()
     }
 
     /// The figures as they stand, also where no order set them.
@@ -81,17 +74,8 @@ impl Kept {
         report(self.asked, self.account, self.verdict())
     }
 
-    /// Writes the report at the beginning of a text that has room for it, and returns its length; a
-    /// text too small is not touched, and 0 is returned.
     pub fn report_into(&self, text: &mut [u8]) -> usize {
-        let report = self.report();
-        match text.get_mut(..report.len()) {
-            Some(to) => {
-                to.copy_from_slice(report.as_bytes());
-                report.len()
-            }
-            None => 0,
-        }
+        write_report(&self.report(), text)
     }
 }
 
@@ -105,7 +89,7 @@ impl Default for Kept {
 mod tests {
     use super::*;
     use crate::account::{FAIL, NOT_MEASURED, PASS};
-    use crate::capture::{frame_record, order_record};
+    use crate::capture::{frame_record, order_record, Reader};
     use crate::send::send;
     use crate::xorshift::Xorshift;
 
@@ -145,18 +129,17 @@ mod tests {
         }
     }
 
-    /// The answer of a step, and the run and the store after it.
-    fn answered(mut run: Kept, store: &[u8], piece: &[u8]) -> (u32, Kept, Vec<u8>) {
-        let mut store = store.to_vec();
-        let number = run.step(&mut store, piece);
-        (number, run, store)
+    /// The answer of a step, and the run after it.
+    fn answered(mut run: Kept, piece: &[u8]) -> (u32, Kept) {
+        let number = run.step(piece);
+        (number, run)
     }
 
-    /// The run and the store after a step, which must be done.
-    fn stepped(run: Kept, store: &[u8], piece: &[u8]) -> (Kept, Vec<u8>) {
-        let (number, run, store) = answered(run, store, piece);
+    /// The run after a step, which must answer 0.
+    fn stepped(run: Kept, piece: &[u8]) -> Kept {
+        let (number, run) = answered(run, piece);
         assert_eq!(number, 0);
-        (run, store)
+        run
     }
 
     #[test]
@@ -175,15 +158,14 @@ mod tests {
         ];
         let mut whole = Run::new();
         let mut kept = Kept::new();
-        let mut store = random.bytes(2_880);
         let mut verdicts = vec![];
         for (n, (record, right)) in records.iter().enumerate() {
             whole.take(Reader::new(record).next_record());
             let number;
-            (number, kept, store) = answered(kept, &store, record);
+            (number, kept) = answered(kept, record);
             assert_eq!(number, *right);
             assert_eq!(kept.phase, if n < 5 { GOING } else { STOPPED });
-            assert!(kept.account == whole.account && store == whole.store);
+            assert_eq!(kept.account, whole.account);
             assert_eq!(kept.report(), whole.report());
             verdicts.push(kept.verdict());
         }
@@ -193,29 +175,26 @@ mod tests {
 
     #[test]
     fn the_first_order_opens_whatever_the_run_held() {
-        let store = Xorshift::new(91).bytes(2_880);
-        let (run, after) = stepped(odd(UNORDERED), &store, &order(3, 4, 5));
+        let run = stepped(odd(UNORDERED), &order(3, 4, 5));
         let right = Kept {
             phase: GOING,
             asked: 4,
             allowed: 5,
             account: opened(3),
         };
-        assert!(run == right && after == [0; 2_880]);
+        assert_eq!(run, right);
     }
 
     #[test]
     fn what_stops_a_run_changes_nothing_else() {
         let mut random = Xorshift::new(92);
-        let store = random.bytes(2_880);
         let [frame, lost] = frames(&mut random);
         let (in_order, lost) = (frame_record(5, &frame), frame_record(5, &lost));
         let late = frame_record(4, &frame);
         let (mut version, mut kind) = (order(5, 1, 1), order(5, 1, 1));
         (version[4], kind[5]) = (2, 1);
         let stops = |phase, piece: &[u8], number| {
-            let right = (number, odd(STOPPED), store.clone());
-            assert!(answered(odd(phase), &store, piece) == right);
+            assert_eq!(answered(odd(phase), piece), (number, odd(STOPPED)));
         };
         // Before any order, in a run above its limits, and in one that was stopped.
         for (piece, unordered, going) in [
@@ -239,7 +218,7 @@ mod tests {
         }
         // No bytes stop no run; one with another phase is then told to be stopped.
         for (phase, after) in [(0, 0), (1, 1), (2, 2), (3, 2), (u32::MAX, 2)] {
-            assert!(stepped(odd(phase), &store, &[]) == (odd(after), store.clone()));
+            assert_eq!(stepped(odd(phase), &[]), odd(after));
             let mut run = odd(phase);
             run.stop();
             assert_eq!(run, odd(STOPPED));
@@ -250,7 +229,6 @@ mod tests {
     #[test]
     fn the_number_of_an_entry_is_told() {
         let mut random = Xorshift::new(94);
-        let store = random.bytes(2_880);
         let [frame, lost] = frames(&mut random);
         let (frames, words) = (1_000_000, 384_000_000);
         // Accepted, missing and clean before it; how far ahead; the answers with lock and without.
@@ -284,52 +262,100 @@ mod tests {
             };
             for (symbols, right) in [(&frame, with_lock), (&lost, without)] {
                 let record = frame_record(u32::MAX.wrapping_add(d), symbols);
-                let (number, after, moved) = answered(run, &store, &record);
+                let (number, after) = answered(run, &record);
                 assert_eq!(number, right);
                 if right == 0 {
                     assert_eq!((after.phase, after.account.expected), (GOING, d));
                 } else {
                     let phase = STOPPED;
-                    assert!(after == Kept { phase, ..run } && moved == store);
+                    assert_eq!(after, Kept { phase, ..run });
                 }
                 // Told once: the same record finds the run stopped, or late.
-                let (again, ..) = answered(after, &moved, &record);
+                let (again, _) = answered(after, &record);
                 assert_eq!(again, if right == 0 { 10 } else { 0 });
             }
         }
     }
 
+    /// Whatever the record would have done, and whatever stands behind it.
     #[test]
-    fn what_follows_a_record_is_not_looked_at() {
+    fn more_bytes_than_one_record_stop_a_run_by_22() {
         let mut random = Xorshift::new(93);
-        let store = random.bytes(2_880);
-        let frame = frame_record(8, &frames(&mut random)[0]);
-        let run = Kept {
+        let [frame, lost] = frames(&mut random);
+        let going = Kept {
             phase: GOING,
             asked: 1,
             allowed: 0,
             account: opened(8),
         };
-        let (after, moved) = stepped(run, &store, &frame);
-        assert_eq!((after.phase, after.account.accepted), (GOING, 1));
-        for more in [&[0][..], &[0xFF; 18], &frame] {
-            let piece = [&frame[..], more].concat();
-            assert!(stepped(run, &store, &piece) == (after, moved.clone()));
-        }
-    }
-
-    #[test]
-    fn a_store_of_a_wrong_length_is_refused_first() {
-        for phase in [UNORDERED, GOING, STOPPED, 77] {
-            for piece in [&[][..], &[0], &[0; 4], &order(1, 2, 3)] {
-                for length in [0, 1, 2_879, 2_881, 5_280] {
-                    let mut run = odd(phase);
-                    let mut store = vec![0xA5; length];
-                    assert_eq!(run.step(&mut store, piece), 2);
-                    assert!(run == odd(phase) && store.iter().all(|&byte| byte == 0xA5));
+        let first = order(8, 1, 0);
+        // In order, behind a gap, too far ahead, late, without lock; before any order, the first
+        // order and a frame; a second order.
+        let records: Vec<_> = [8, 9, 2_000_000, 7]
+            .into_iter()
+            .flat_map(|number| [&frame, &lost].map(|symbols| frame_record(number, symbols)))
+            .chain([first.clone()])
+            .collect();
+        for record in &records {
+            let others = [&[0][..], &[1], &[0xFF; 4], &first, &first[..5], &records[0]];
+            for run in [going, odd(GOING), Kept::new(), odd(UNORDERED)] {
+                for more in others {
+                    let piece = [&record[..], more].concat();
+                    let phase = STOPPED;
+                    let stopped = Kept { phase, ..run };
+                    assert_eq!(answered(run, &piece), (22, stopped));
+                    // Told once, and not by a run that had stopped before.
+                    assert_eq!(answered(stopped, &piece), (0, stopped));
+                    let other = Kept { phase: 77, ..run };
+                    assert_eq!(answered(other, &piece), (0, stopped));
+                    assert_eq!(stopped.verdict(), NOT_MEASURED);
                 }
             }
         }
+        // The same records alone are no more than one.
+        let alone = records.iter().map(|record| answered(going, record).0);
+        assert_eq!(alone.collect::<Vec<_>>(), [0, 0, 0, 0, 11, 11, 10, 10, 0]);
+    }
+
+    /// What refuses the record at the beginning has a lower number than 22.
+    #[test]
+    fn refusals_of_a_record_come_before_22() {
+        let frame = frame_record(5, &frames(&mut Xorshift::new(95))[0]);
+        for record in [&order(5, 1, 1), &frame] {
+            for (place, byte, number) in [(0, 1, 7), (3, 0, 7), (4, 2, 8), (4, 0, 8), (5, 2, 9)] {
+                let mut spoilt = record.clone();
+                spoilt[place] = byte;
+                for more in [&[][..], &[0], &[0xFF; 30], record] {
+                    let piece = [&spoilt[..], more].concat();
+                    for phase in [UNORDERED, GOING] {
+                        assert_eq!(answered(odd(phase), &piece), (number, odd(STOPPED)));
+                    }
+                }
+            }
+            // One byte fewer than a record, the record, and one byte more.
+            for (length, unordered) in [(record.len() - 1, 6), (record.len(), 0)] {
+                assert_eq!(answered(odd(UNORDERED), &record[..length]).0, unordered);
+            }
+            let longer = [&record[..], &[0]].concat();
+            assert_eq!(answered(odd(UNORDERED), &longer).0, 22);
+        }
+    }
+
+    /// Two records given as one cannot pass, though each alone would.
+    #[test]
+    fn glued_records_do_not_pass() {
+        let frame = frame_record(8, &frames(&mut Xorshift::new(96))[0]);
+        let records = [order(8, 1, 0), frame];
+        let run = records.iter().fold(Kept::new(), |run, r| stepped(run, r));
+        assert_eq!(run.verdict(), PASS);
+        let (number, glued) = answered(Kept::new(), &records.concat());
+        assert_eq!((number, glued.verdict()), (22, NOT_MEASURED));
+        // The frame twice: not even the first is entered.
+        let (number, twice) = answered(
+            stepped(Kept::new(), &records[0]),
+            &[&records[1][..], &records[1]].concat(),
+        );
+        assert_eq!((number, twice.account), (22, opened(8)));
     }
 
     #[test]

@@ -1,5 +1,5 @@
-//! The run of a whole capture: the order, the account, the receiver's store, the verdict and the
-//! report.
+//! The run of a whole capture: the order, the account, the verdict and the report. It has no use for
+//! lanes, and so keeps no store.
 
 use crate::account::{
     count_flags, enter, lose, numbers, opened, tallies, verdict, Account, FAIL, NOT_MEASURED, PASS,
@@ -34,7 +34,6 @@ impl Stop {
 pub struct Run {
     pub order: Option<Order>,
     pub account: Account,
-    pub store: [u8; STORE_BYTES],
     pub stop: Option<Stop>,
 }
 
@@ -43,7 +42,6 @@ impl Run {
         Run {
             order: None,
             account: opened(0),
-            store: [0; STORE_BYTES],
             stop: None,
         }
     }
@@ -93,7 +91,6 @@ impl Run {
         }
         self.order = Some(order);
         self.account = opened(order.start);
-        self.store = [0; STORE_BYTES];
         Ok(())
     }
 
@@ -101,20 +98,19 @@ impl Run {
         if self.order.is_none() {
             return Err(Stop::NoOrder);
         }
-        // The account is asked after receiving and may refuse: until then only a copy moves.
-        let mut store = self.store;
+        // Neither lock nor flags depend on the store: any will do.
+        let mut store = [0; STORE_BYTES];
         let mut lanes = [0; LANES_BYTES];
         let mut flags = [0; FRAME_WORDS];
         let (refusal, account) = match receive(symbols, &mut store, &mut lanes, &mut flags) {
             0 => enter(self.account, number, count_flags(&flags)),
-            // All lengths are right, so there is no lock, and the copy has not moved.
+            // All lengths are right, so there is no lock.
             _ => lose(self.account, number),
         };
         if refusal != 0 {
             return Err(Stop::Refused(refusal));
         }
         self.account = account;
-        self.store = store;
         Ok(())
     }
 
@@ -157,6 +153,27 @@ pub fn report(asked: u32, account: Account, verdict: u32) -> String {
          flagged {flagged}\n\
          verdict {verdict}\n"
     )
+}
+
+/// Writes a report at the beginning of a text that has room for it, and returns its length; a text
+/// too small is not touched, and 0 is returned.
+pub fn write_report(report: &str, text: &mut [u8]) -> usize {
+    match text.get_mut(..report.len()) {
+        Some(to) => {
+            to.copy_from_slice(report.as_bytes());
+            report.len()
+        }
+        None => 0,
+    }
+}
+
+/// The report of a whole capture, into a text.
+pub fn examine(capture: &[u8], text: &mut [u8]) -> usize {
+    write_report(&Run::of(capture).report(), text)
+}
+
+pub fn examine_verdict(capture: &[u8]) -> u32 {
+    Run::of(capture).verdict()
 }
 
 impl Default for Run {
@@ -316,30 +333,82 @@ mod tests {
         hit(&mut frames[1], 0..50, 3);
         spoil_pilots(&mut frames[1], 25);
         let mut run = Run::of(&order(5, 3, 0));
-        let mut stores = vec![run.store];
         for (symbols, number) in frames.iter().zip(5..) {
             assert!(run.take(Answer::Frame { number, symbols }));
-            stores.push(run.store);
         }
-        // The lost frame has moved no store.
-        assert!(stores[0] != stores[1] && stores[1] == stores[2] && stores[2] != stores[3]);
         let numbers = [3, 2, 1, 768, 0, 0, 0];
         assert_eq!(run.report(), text(numbers, "NOT MEASURED"));
         assert_eq!(run.stop, None);
     }
 
     #[test]
-    fn the_store_is_that_of_receiving_the_accepted_frames() {
-        let mut frames = sent(64, 5);
+    fn a_run_without_a_store_is_that_of_a_host_that_keeps_one() {
+        let mut frames = sent(64, 9);
+        let mut random = Xorshift::new(64);
+        for (n, frame) in frames.iter_mut().enumerate() {
+            hit(frame, 0..n, 1 + n % 4);
+        }
         spoil_pilots(&mut frames[2], 96);
-        let mut capture = order(0, 5, 0);
-        let mut store = [0; 2_880];
-        let (mut lanes, mut flags) = ([0; 5_280], [0; 384]);
-        for (frame, number) in frames.iter().zip(0..) {
-            let right = if number == 2 { 5 } else { 0 };
-            assert_eq!(receive(frame, &mut store, &mut lanes, &mut flags), right);
-            capture.extend(frame_record(number, frame));
-            assert!(Run::of(&capture).store == store);
+        for first in [vec![0; 2_880], random.bytes(2_880)] {
+            let mut capture = order(0, 9, 0);
+            let mut account = opened(0);
+            let mut store = first;
+            let (mut lanes, mut flags) = ([0; 5_280], [0; 384]);
+            for (frame, number) in frames.iter().zip(0..) {
+                let right = if number == 2 { 5 } else { 0 };
+                let before = store.clone();
+                assert_eq!(receive(frame, &mut store, &mut lanes, &mut flags), right);
+                assert_eq!(store == before, right == 5);
+                let entered = match right {
+                    0 => enter(account, number, count_flags(&flags)),
+                    _ => lose(account, number),
+                };
+                assert_eq!(entered.0, 0);
+                account = entered.1;
+                capture.extend(frame_record(number, frame));
+                assert!(Run::of(&capture).account == account);
+            }
+            assert!(account.flagged > 0 && account.one > 0 && account.two > 0);
+        }
+    }
+
+    /// Of every verdict, into texts of every length.
+    #[test]
+    fn a_capture_examined_in_one_call() {
+        let mut frames = sent(72, 2);
+        hit(&mut frames[0], 0..2, 1);
+        hit(&mut frames[1], 7..8, 3);
+        let mut lost = frames[1];
+        spoil_pilots(&mut lost, 25);
+        let records = |allowed, second: &Symbols| {
+            let first = frame_record(3, &frames[0]);
+            [order(3, 2, allowed), first, frame_record(4, second)].concat()
+        };
+        let (pass, fail) = (records(1, &frames[1]), records(0, &frames[1]));
+        let measured = [2, 2, 0, 765, 2, 0, 1];
+        let none = NOT_MEASURED;
+        for (capture, numbers, verdict) in [
+            (vec![], [0; 7], none),
+            (pass.clone(), measured, PASS),
+            (fail.clone(), measured, FAIL),
+            (records(1, &lost), [2, 1, 1, 382, 2, 0, 0], none),
+            // Behind what was measured: a byte, half a record, a second order, the last frame again.
+            ([&pass[..], &[0]].concat(), measured, none),
+            ([&fail[..], &pass[..9]].concat(), measured, none),
+            ([&pass[..], &pass[..18]].concat(), measured, none),
+            ([&pass[..], &pass[6_172..]].concat(), measured, none),
+            (pass[18..].to_vec(), [0; 7], none),
+        ] {
+            assert_eq!(examine_verdict(&capture), verdict);
+            let right = text(numbers, ["NOT MEASURED", "PASS", "FAIL"][verdict as usize]);
+            for room in 0..=220 {
+                let mut written = vec![0xA5; room];
+                let fits = room >= right.len();
+                let length = if fits { right.len() } else { 0 };
+                assert_eq!(examine(&capture, &mut written), length);
+                assert!(written[..length] == right.as_bytes()[..length]);
+                assert!(written[length..].iter().all(|&byte| byte == 0xA5));
+            }
         }
     }
 

@@ -13,14 +13,19 @@ use Rattle.bits.proofs.Fixes.{Fixes, FixesSaid}
 use Rattle.account.specs.definitions.Account.{opened, lossEntered}
 use Rattle.account.specs.declared.Entry.{Entry}
 use Rattle.bench.specs.definitions.Run.{begun, stopped}
+use Rattle.adderbloom.specs.declared.runs.Answer.{Answer}
 use Rattle.adderbloom.specs.definitions.Entry.{flagsEntered}
-use Rattle.adderbloom.specs.definitions.Run.{runOf, keptRun, Steps}
+use Rattle.adderbloom.specs.definitions.Run.{runOf, keptRun, stepAnswer}
 use Rattle.adderbloom.proofs.lr800_send.Kinds as send-kinds
 use Rattle.adderbloom.proofs.lr800_send.Reads as send-reads
 use Rattle.adderbloom.proofs.lr800_receive.Kinds as receive-kinds
 use Rattle.adderbloom.proofs.lr800_receive.Reads as receive-reads
 use Rattle.adderbloom.proofs.lr800_verdict.Kinds as verdict-kinds
 use Rattle.adderbloom.proofs.lr800_verdict.Reads as verdict-reads
+use Rattle.adderbloom.proofs.captures.lr800_examine.Kinds as examine-kinds
+use Rattle.adderbloom.proofs.captures.lr800_examine.Reads as examine-reads
+use Rattle.adderbloom.proofs.captures.lr800_examine_verdict.Kinds as examine-verdict-kinds
+use Rattle.adderbloom.proofs.captures.lr800_examine_verdict.Reads as examine-verdict-reads
 use Rattle.adderbloom.proofs.entries.lr800_account_open as account-open
 use Rattle.adderbloom.proofs.entries.lr800_account_enter as account-enter
 use Rattle.adderbloom.proofs.entries.lr800_account_lose as account-lose
@@ -57,7 +62,13 @@ wanted-determined κs a x y s t p q = (p ∙ sym q, tt)
 pub run-verdict-determined : Fixes 0 run-verdict-kinds.ps run-verdict-kinds.r run-verdict-reads.Post (λ κs s t. Unit)
 run-verdict-determined κs a x y s t p q = (p ∙ sym q, tt)
 
+pub examine-verdict-determined : Fixes 1 examine-verdict-kinds.ps examine-verdict-kinds.r examine-verdict-reads.Post (λ κs s t. Unit)
+examine-verdict-determined κs a x y s t p q = (p ∙ sym q, tt)
+
 -- how many bytes, and the text at exit
+pub examine-determined : Fixes 2 examine-kinds.ps examine-kinds.r examine-reads.Post (λ κs s t. now (s .1 .0) ≡ now (t .1 .0))
+examine-determined κs a x y s t p q = (p .0 ∙ sym (q .0), p .1 ∙ sym (q .1))
+
 pub run-report-determined : Fixes 1 run-report-kinds.ps run-report-kinds.r run-report-reads.Post (λ κs s t. now (s .1 .0) ≡ now (t .1 .0))
 run-report-determined κs a x y s t p q = (p .0 ∙ sym (q .0), p .1 ∙ sym (q .1))
 
@@ -91,11 +102,10 @@ module _ {M : Type 1} (𝓤 : URA M) (H : Heap 𝓤) (A : Atoms 𝓤) (mem : Mem
   pub run-stop-determined : FixesSaid 𝓤 run-stop.ended (run-stop.clauses 𝓤 H A mem run) (λ κs x y s t. (x ≡ y) × (now (s .0) ≡ now (t .0)))
   run-stop-determined κs a g = ((λ r s. now (s .0) ≡ keptRun (stopped (runOf (now (a .0))))), (λ x s. refl), (λ x y s t p q. (refl, p ∙ sym q)))
 
-  -- the number, and the run and the store at exit
-  pub run-step-determined : FixesSaid 𝓤 run-step.ended (run-step.clauses 𝓤 H A mem run) (λ κs x y s t. (x ≡ y) × (now (s .0) ≡ now (t .0))
-      × (now (s .1 .0) ≡ now (t .1 .0)))
+  -- the number, and the run at exit
+  pub run-step-determined : FixesSaid 𝓤 run-step.ended (run-step.clauses 𝓤 H A mem run) (λ κs x y s t. (x ≡ y) × (now (s .0) ≡ now (t .0)))
   run-step-determined κs a g = (
-    (λ r s. Steps (now (a .0)) (now (a .1 .0)) (now (a .1 .1 .0)) r (now (s .0)) (now (s .1 .0))),
+    (λ r s. record { refusal = r; run = now (s .0) } ≡ stepAnswer (now (a .0)) (now (a .1 .0))),
     (λ x s. refl),
-    (λ x y s t p q. (p .number ∙ sym (q .number), p .run ∙ sym (q .run), p .store ∙ sym (q .store))),
+    (λ x y s t p q. let e = p ∙ sym q in (ap (λ (z : Answer). z .refusal) e, ap (λ (z : Answer). z .run) e)),
   )

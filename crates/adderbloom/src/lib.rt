@@ -1,4 +1,5 @@
 // What a rig's host program in C calls. A slice passes as a pointer and a length, in that order.
+mod captures;
 mod entries;
 mod records;
 mod runs;

@@ -1,11 +1,9 @@
 // A whole run lent by a host: a capture record by record, the verdict and the report.
 ghost use mathlib.Core.Path.{_≡_};
-ghost use lib.ListN.{length};
-ghost use Rattle.bits.specs.definitions.Bits.{copied};
 ghost use Rattle.account.specs.definitions.Account.{verdictNumber};
 ghost use Rattle.bench.specs.definitions.Run.{begun, stopped, verdictOf};
 ghost use Rattle.report.specs.definitions.Report.{written, writtenBytes};
-ghost use Rattle.adderbloom.specs.definitions.Run.{phaseNumber, phaseOf, runOf, keptRun, Steps};
+ghost use Rattle.adderbloom.specs.definitions.Run.{phaseNumber, phaseOf, runOf, keptRun, stepAnswer};
 
 // A run as a host keeps it: the phase by its number, the order's figures and the account.
 #[repr(C)]
@@ -89,24 +87,11 @@ fn stopped(r: Run) -> Run
     kept_run(bench::stopped(run_of(r)))
 }
 
-// A store over a lent one.
-fn put_store(from: &[u8; 2880], to: &mut [u8])
-    ensures { λ _. ⌜ (now (to .exit) ≡ copied (now (from .entry)) (now (to .entry))) × (length (now (from .entry)) ≡ 2880) ⌝ }
-{
-    bits::copy(from, to);
-}
-
 // One record's bytes, by value.
-fn stepped(r: Run, store: &mut [u8], piece: &[u8]) -> Answer
-    ensures { λ s. ⌜ Steps r (now (store .entry)) (now (piece .entry)) (s .refusal) (s .run) (now (store .exit)) ⌝ }
+fn stepped(r: Run, piece: &[u8]) -> Answer
+    ensures { λ s. ⌜ s ≡ stepAnswer r (now (piece .entry)) ⌝ }
 {
-    if store.len() != 2880 {
-        return Answer { refusal: 2, run: r };
-    }
-    let mut own = [0u8; 2880];
-    bits::copy(store, &mut own);
-    let s = bench::step(run_of(r), &mut own, piece);
-    put_store(&own, store);
+    let s = bench::step(run_of(r), piece);
     let b = s.run;
     let after = kept_run(b);
     Answer {
@@ -123,13 +108,12 @@ pub extern "C" fn lr800_run_open(r: &mut Run)
     *r = opened();
 }
 
-// One record's bytes, and what they change of the run and the store lent beside it. Refused: 2 another length of the store, which changes nothing;
-// 6 to 11 a record or its entry, which stops the run.
+// One record's bytes, and what they change of the run. Refused, which stops the run: 6 to 9 the record, 10 and 11 its entry, 22 more than one record.
 #[no_mangle]
-pub extern "C" fn lr800_run_step(r: &mut Run, store: &mut [u8], piece: &[u8]) -> u32
-    ensures { λ n. ⌜ Steps (now (r .entry)) (now (store .entry)) (now (piece .entry)) n (now (r .exit)) (now (store .exit)) ⌝ }
+pub extern "C" fn lr800_run_step(r: &mut Run, piece: &[u8]) -> u32
+    ensures { λ n. ⌜ record { refusal = n; run = now (r .exit) } ≡ stepAnswer (now (r .entry)) (now (piece .entry)) ⌝ }
 {
-    let s = stepped(*r, store, piece);
+    let s = stepped(*r, piece);
     *r = s.run;
     s.refusal
 }

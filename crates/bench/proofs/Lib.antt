@@ -1,7 +1,7 @@
 pub mod Frames
 pub mod Steps
 pub mod Walk
+pub mod Reading
 pub mod Stops
-pub mod Stores
 pub mod Remaining
 pub mod Determined

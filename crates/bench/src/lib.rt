@@ -2,9 +2,10 @@
 ghost use mathlib.Core.Path.{_≡_};
 ghost use mathlib.Core.Bool.{cond};
 ghost use lib.ListN.{length};
-ghost use Rattle.bench.specs.definitions.Run.{begun, going, stopped, afterEntry, isStopped, framed, entryOf, orderCame, frameCame, frameRefusal, halted};
-ghost use Rattle.bench.specs.definitions.Run.{stepped, stepRefusal, goesOn, verdictOf};
+ghost use Rattle.bench.specs.definitions.Run.{begun, going, stopped, afterEntry, isStopped, entryOf, orderCame, frameCame, frameRefusal, halted};
+ghost use Rattle.bench.specs.definitions.Run.{refusalOf, cameAs, stepped, stepRefusal, goesOn, verdictOf};
 ghost use Rattle.bench.specs.definitions.Walk.{examined};
+ghost use Rattle.bench.specs.private.Frame.{SymbolsThere};
 
 // No order yet; going on; stopped by a refusal, a second order, a frame before any order or a read that failed.
 pub enum Phase {
@@ -13,7 +14,7 @@ pub enum Phase {
     Stopped,
 }
 
-// What a run holds beside the receiver's store: where it stands, the order's figures and the account.
+// What a run holds: where it stands, the order's figures and the account.
 pub struct Run {
     pub phase: Phase,
     pub asked: u32,
@@ -25,13 +26,6 @@ pub struct Run {
 pub struct Stepped {
     pub refusal: u32,
     pub run: Run,
-}
-
-// A store over another, whole.
-fn copy_store(from: &[u8; 2880], to: &mut [u8; 2880])
-    ensures { λ _. ⌜ (now (to .exit) ≡ now (from .entry)) × (length (now (from .entry)) ≡ 2880) ⌝ }
-{
-    bits::copy(from, to);
 }
 
 // The run before its first record.
@@ -103,41 +97,34 @@ fn after_entry(run: Run, e: account::Entry) -> Stepped
     }
 }
 
-// A frame received and entered, or, without lock, entered as a loss. A refused entry stops the run, and the store stays as it was.
-fn framed(run: Run, store: &mut [u8; 2880], got: u32, symbols: &[u8]) -> Stepped
+// A frame entered with the tallies of its flags, or, without lock, as a loss. A refused entry stops the run.
+fn framed(run: Run, got: u32, symbols: &[u8]) -> Stepped
     requires { ⌜ length (now symbols) ≡ 6144 ⌝ }
-    ensures { λ r. ⌜ (record { run = r .run; store = now (store .exit) } ≡ framed (record { run = run; store = now (store .entry) }) got (now (symbols .entry)))
-        × (r .refusal ≡ entryOf (run .account) got (now (symbols .entry)) .refusal) ⌝ }
+    ensures { λ r. ⌜ r ≡ record {
+      refusal = entryOf (run .account) got (now (symbols .entry)) .refusal;
+      run = afterEntry run (entryOf (run .account) got (now (symbols .entry)));
+    } ⌝ }
 {
     let a = run.account;
-    let mut kept = [0u8; 2880];
-    copy_store(store, &mut kept);
-    let mut lanes = [0u8; 5280];
+    let mut words = [0u64; 768];
     let mut flags = [0u8; 384];
-    let number = framing::receive(symbols, &mut kept, &mut lanes, &mut flags);
+    let number = framing::receive_words(symbols, &mut words, &mut flags);
     if number != 0 {
         let e = account::lose(a, got);
         return after_entry(run, e);
     }
     let t = account::tallies_of(a, got, &flags);
     let e = account::enter(a, got, t);
-    if e.refusal != 0 {
-        return after_entry(run, e);
-    }
-    copy_store(&kept, store);
     after_entry(run, e)
 }
 
-// An order came: the first is taken, with a new account and a fresh store; a second one stops the run.
-fn order_came(run: Run, store: &mut [u8; 2880], start: u32, asked: u32, allowed: u32) -> Run
-    ensures { λ r. ⌜ record { run = r; store = now (store .exit) }
-        ≡ orderCame (run .phase) (record { run = run; store = now (store .entry) }) start asked allowed ⌝ }
+// An order came: the first is taken, with a new account; a second one stops the run.
+fn order_came(run: Run, start: u32, asked: u32, allowed: u32) -> Run
+    ensures { λ r. ⌜ r ≡ orderCame (run .phase) run start asked allowed ⌝ }
 {
     let p = run.phase;
     match p {
         Phase::Unordered => {
-            let fresh = [0u8; 2880];
-            copy_store(&fresh, store);
             let a = account::opened(start);
             Run {
                 phase: Phase::Going,
@@ -152,11 +139,12 @@ fn order_came(run: Run, store: &mut [u8; 2880], start: u32, asked: u32, allowed:
 }
 
 // A frame came: before any order it stops the run.
-fn frame_came(run: Run, store: &mut [u8; 2880], got: u32, symbols: &[u8]) -> Stepped
+fn frame_came(run: Run, got: u32, symbols: &[u8]) -> Stepped
     requires { ⌜ length (now symbols) ≡ 6144 ⌝ }
-    ensures { λ r. ⌜ (record { run = r .run; store = now (store .exit) }
-        ≡ frameCame (run .phase) (record { run = run; store = now (store .entry) }) got (now (symbols .entry)))
-        × (r .refusal ≡ frameRefusal (run .phase) (record { run = run; store = now (store .entry) }) got (now (symbols .entry))) ⌝ }
+    ensures { λ r. ⌜ r ≡ record {
+      refusal = frameRefusal (run .phase) run got (now (symbols .entry));
+      run = frameCame (run .phase) run got (now (symbols .entry));
+    } ⌝ }
 {
     let p = run.phase;
     match p {
@@ -167,7 +155,7 @@ fn frame_came(run: Run, store: &mut [u8; 2880], got: u32, symbols: &[u8]) -> Ste
                 run: halt,
             }
         }
-        Phase::Going => framed(run, store, got, symbols),
+        Phase::Going => framed(run, got, symbols),
         Phase::Stopped => Stepped { refusal: 0, run },
     }
 }
@@ -183,12 +171,11 @@ fn halted(run: Run, refusal: u32) -> Stepped
     Stepped { refusal, run: halt }
 }
 
-// One record's bytes alone, and what they change: a refused record only stops the run, and a run that is stopped changes no more. The number is the refusal's.
-pub fn step(run: Run, store: &mut [u8; 2880], piece: &[u8]) -> Stepped
-    ensures { λ r. ⌜ (record { run = r .run; store = now (store .exit) } ≡ stepped (record { run = run; store = now (store .entry) }) (now (piece .entry)))
-        × (r .refusal ≡ stepRefusal (record { run = run; store = now (store .entry) }) (now (piece .entry))) ⌝ }
+// What was read in some bytes, and what it changes of the run.
+fn came(run: Run, read: capture::Read, bytes: &[u8]) -> Stepped
+    requires { ⌜ SymbolsThere read (now bytes) ⌝ }
+    ensures { λ r. ⌜ r ≡ record { refusal = refusalOf read run (now (bytes .entry)); run = cameAs read run (now (bytes .entry)) } ⌝ }
 {
-    let read = capture::read_at(piece, 0);
     match read {
         capture::Read::End => Stepped { refusal: 0, run },
         capture::Read::Refused(refusal) => halted(run, refusal),
@@ -198,7 +185,7 @@ pub fn step(run: Run, store: &mut [u8; 2880], piece: &[u8]) -> Stepped
             allowed,
             next: _,
         } => {
-            let taken = order_came(run, store, start, asked, allowed);
+            let taken = order_came(run, start, asked, allowed);
             Stepped {
                 refusal: 0,
                 run: taken,
@@ -209,10 +196,19 @@ pub fn step(run: Run, store: &mut [u8; 2880], piece: &[u8]) -> Stepped
             from,
             next: _,
         } => {
-            let symbols = capture::symbols_at(piece, from);
-            frame_came(run, store, number, symbols)
+            let symbols = capture::symbols_at(bytes, from);
+            frame_came(run, number, symbols)
         }
     }
+}
+
+// One record's bytes alone, and what they change: what is no single record only stops the run, and a run that is stopped changes no more. The number is the
+// refusal's.
+pub fn step(run: Run, piece: &[u8]) -> Stepped
+    ensures { λ r. ⌜ r ≡ record { refusal = stepRefusal run (now (piece .entry)); run = stepped run (now (piece .entry)) } ⌝ }
+{
+    let read = capture::read_one(piece);
+    came(run, read, piece)
 }
 
 // Whether an order came, and nothing has stopped the run since.
@@ -235,18 +231,17 @@ pub fn verdict_of(run: Run) -> account::Verdict
     account::verdict_of(run.asked, run.allowed, a, !goes_on(p))
 }
 
-// A whole capture from a fresh run on, record by record. At a refused record the place stays, and the run is stopped.
+// A whole capture, record by record. At a refused record the place stays, and the run is stopped.
 pub fn examine_capture(capture: &[u8]) -> Run
-    ensures { λ r. ⌜ r ≡ examined (now (capture .entry)) .run ⌝ }
+    ensures { λ r. ⌜ r ≡ examined (now (capture .entry)) ⌝ }
 {
-    let mut store = [0u8; 2880];
     let mut run = begun();
     let mut place: usize = 0;
     while place < capture.len() {
         let read = capture::read_at(capture, place);
-        let stepped = step(run, &mut store, &capture[place..]);
-        run = stepped.run;
         let next = capture::next_place(read, place);
+        let stepped = came(run, read, capture);
+        run = stepped.run;
         if next <= place {
             return run;
         }

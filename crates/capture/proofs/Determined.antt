@@ -24,6 +24,8 @@ use Rattle.capture.proofs.next_place.Kinds as place-kinds
 use Rattle.capture.proofs.next_place.Reads as place-reads
 use Rattle.capture.proofs.wanted.Kinds as wanted-kinds
 use Rattle.capture.proofs.wanted.Reads as wanted-reads
+use Rattle.capture.proofs.read_one.Kinds as one-kinds
+use Rattle.capture.proofs.read_one.Reads as one-reads
 use Rattle.capture.proofs.begin as begin
 use Rattle.capture.proofs.next as next
 use Rattle.capture.proofs.moved as moved
@@ -32,6 +34,9 @@ use Rattle.capture.proofs.symbols as symbols
 -- what was read, and no buffer
 pub read-at-determined : Fixes 1 read-kinds.ps read-kinds.r read-reads.Post (λ κs s t. Unit)
 read-at-determined κs a x y s t p q = (p ∙ sym q, tt)
+
+pub read-one-determined : Fixes 1 one-kinds.ps one-kinds.r one-reads.Post (λ κs s t. Unit)
+read-one-determined κs a x y s t p q = (p ∙ sym q, tt)
 
 -- the content of the part
 pub symbols-at-determined : (κs : Lfts 1) (a : Dens κs symbols-kinds.ps) (x y : resT symbols-kinds.r κs .Denot)

@@ -1,6 +1,7 @@
 pub mod Cases
 pub mod Found
 pub mod Local
+pub mod One
 pub mod Records
 pub mod Determined
 pub mod Examples

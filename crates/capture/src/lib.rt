@@ -2,7 +2,8 @@
 ghost use mathlib.Core.Path.{_≡_};
 ghost use Prim.Native.Nat.{_+_, _<_, _≤_};
 ghost use lib.ListN.{length};
-ghost use Rattle.capture.specs.definitions.Capture.{layout, bigEndianAt, refusalAt, orderAt, frameAt, readAt, nextOf, symbolsAt, wanted};
+ghost use Rattle.capture.specs.definitions.Capture.{layout, bigEndianAt, refusalAt, orderAt, frameAt, readAt, nextOf, readOne};
+ghost use Rattle.capture.specs.definitions.Capture.{symbolsAt, wanted};
 
 // A record's length comes first: its bytes, and the two lengths that are admitted.
 const LENGTH_BYTES: usize = 4;
@@ -40,6 +41,9 @@ const SYMBOLS: usize = 6144;
 
 // The longest record.
 pub const FRAME_BYTES: usize = 6154;
+
+// The refusal of more bytes than one record.
+const MORE_THAN_ONE: u32 = 22;
 
 // What stands at a place: the end, a refusal by its number, an order, or a frame with the place from which its symbols lie; and the next place.
 pub enum Read {
@@ -195,6 +199,21 @@ pub fn next_place(read: Read, place: usize) -> usize
             next,
         } => next,
     }
+}
+
+// The one record that these bytes are: where more stands behind it they are refused, so that nothing is passed over.
+pub fn read_one(piece: &[u8]) -> Read
+    ensures { λ r. ⌜ r ≡ readOne (now (piece .entry)) ⌝ }
+{
+    let read = read_at(piece, 0);
+    let next = next_place(read, 0);
+    if next == 0 {
+        return read;
+    }
+    if next < piece.len() {
+        return Read::Refused(MORE_THAN_ONE);
+    }
+    read
 }
 
 // A reader walks over one lent capture and keeps its place.

@@ -11,7 +11,7 @@ use lib.Arith.{digits-div, digits-mod}
 use lib.Dec.{eqb, ltb, lit<}
 use lib.ListN.{length, getD, replicate, length-replicate}
 use lib.Bits.{bitXor, differ, xor-self, xor-zero-r}
-use borrow.Author.Tests.{ltb-true, lt-ltb, eq-eqb, ne-eqb}
+use borrow.Author.Tests.{lt-ltb, eq-eqb, ne-eqb}
 use Rattle.bits.specs.definitions.Bits.{bitOf, count}
 use Rattle.bits.specs.definitions.Words.{wordAt, rowOf}
 use Rattle.bits.proofs.Words.{row-at}
@@ -32,11 +32,11 @@ use Rattle.framing.specs.definitions.Receive.{broughtLanes}
 use Rattle.framing.proofs.Receiving.{all-lengths}
 use Rattle.framing.proofs.Received.{passedOn, brought-bit, store-whole}
 use Rattle.demands.specs.definitions.Trial.{hit, hitPilots, Trial, Accepted, flipsIn}
-use Rattle.demands.specs.definitions.ReedSolomon.{Labels, Spans, carries, heavyWords, wrongSymbol, wrongSymbols, Exceeded}
+use Rattle.demands.specs.definitions.ReedSolomon.{Labels, Spans, carries, heavy, heavyWords, wrongSymbol, wrongSymbols, Exceeded}
 use Rattle.demands.specs.statements.ReedSolomon.{SpansExist, OtherPlaces, OtherPairs}
 use Rattle.demands.proofs.Hit.{hit-at, hit-word, hit-length, hit-locks}
 use Rattle.demands.proofs.Trial.{frame-pilots, differs-by, trials-exist}
-use Rattle.demands.proofs.ReedSolomon.{differ-none}
+use Rattle.demands.proofs.ReedSolomon.{heavy-more, differ-none}
 use Rattle.demands.proofs.LaneCounts.{both, left, lanes-one, lanes-two}
 
 -- ---- flips that hit word 0 of lane 0 alone
@@ -250,8 +250,8 @@ module _ (ex : Places) (s t : ℕ) (order : s < t) (four : t < 4) (parity : s % 
   exceeds =
       omega (
         arith,
-        lanes-one (λ p w. ltb 2 (flipsIn flips p w) && carries ex start (start lane s) p w) (12 * 2)
-            (λ p w hp hw y. first-only p w hp (ltb-true 2 (flipsIn flips p w) (left (ltb 2 (flipsIn flips p w)) _ y))),
+        lanes-one (λ p w. heavy flips p w && carries ex start (start lane s) p w) (12 * 2)
+            (λ p w hp hw y. first-only p w hp (heavy-more flips p w (left (heavy flips p w) _ y))),
         lanes-two (λ p u. ltb (u + 144) (132 * 2) && wrongSymbol (run .back) (run .cleanBack) p u && eqb (start p u) (start lane s))
             (132 * 2) lane s t lane-lt order (omega arith)
             (counted s (omega arith) refl at-s refl) (counted t four (sym side) at-t same-label),

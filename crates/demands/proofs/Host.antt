@@ -1,30 +1,34 @@
--- A whole run by calls from C comes to the capture's run, and so to its verdict and its report.
+-- Calls from C: a capture stepped through comes to the capture's run, and so to its verdict and its report, and whatever bytes are stepped through, none is
+-- passed over.
 -- Assumes nothing.
 use mathlib.Core.Path.{_≡_, refl, sym, ap, _∙_, subst}
+use mathlib.Core.Bool.{true}
 use mathlib.Core.Logic.{_⊎_, inl, inr, _↔_}
 use mathlib.Core.List.{List, [], _∷_}
-use Prim.Native.Nat.{ℕ, zero, suc, _≤_}
+use Prim.Native.Nat.{ℕ, zero, suc, _<_, _≤_}
 use native.Mathlib.Omega.{arith}
 use lib.ListN.{length, getD, take, drop}
 use lib.Seq.{take-length}
-use borrow.Author.Tests.{eq-eqb}
+use Rattle.bits.specs.definitions.Bits.{AllBytes}
 use Rattle.account.specs.declared.Verdict.{Verdict}
 use Rattle.account.specs.declared.Verdict.the-variants.{NotMeasured, Pass, Fail}
 use Rattle.account.specs.definitions.Account.{verdictNumber}
 use Rattle.bench.specs.declared.Run.{Run as Bench}
 use Rattle.bench.specs.declared.Phase.{Phase}
 use Rattle.bench.specs.declared.Phase.the-variants.{Unordered, Going, Stopped}
-use Rattle.bench.specs.definitions.Run.{State, begun, stopped, stepped, stepRefusal, verdictOf}
-use Rattle.bench.specs.definitions.Walk.{pieces, through, examined}
-use Rattle.report.specs.definitions.Report.{text, writtenBytes, written}
-use Rattle.demands.specs.definitions.Verdict.{Line}
-use Rattle.bench.proofs.Walk.{step-piece, through-stays}
-use Rattle.bench.proofs.Stores.{any-store, store-stays}
-use Rattle.demands.proofs.Verdict.{passes, fails, unmeasured, on-the-way, stopped-unmeasured, stopped-says}
-use Rattle.adderbloom.specs.definitions.Run.{phaseNumber, phaseOf, runOf, keptRun, stateOf, Steps}
-use Rattle.demands.specs.definitions.Host.{Gives, Hosted}
-use Rattle.demands.specs.statements.Host.{HostedRun, HostedVerdict, HostedReport, HostedExists, StoppedVerdict}
+use Rattle.bench.specs.definitions.Run.{begun, stopped, isStopped, stepped, stepRefusal, verdictOf}
+use Rattle.bench.specs.definitions.Walk.{pieces, through, joined, examined}
+use Rattle.bench.proofs.Stops.{is-stopped}
+use Rattle.bench.proofs.Walk.{through-stays, pieces-alike, nothing-passed-over}
+use Rattle.report.specs.definitions.Report.{text}
 use Rattle.adderbloom.specs.declared.runs.Run.{Run}
+use Rattle.adderbloom.specs.declared.runs.Answer.{Answer}
+use Rattle.adderbloom.specs.definitions.Run.{phaseNumber, phaseOf, runOf, keptRun, stepAnswer}
+use Rattle.demands.specs.definitions.Verdict.{Measured, flaggedWords, Line}
+use Rattle.demands.specs.definitions.Host.{Due, Hosted}
+use Rattle.demands.specs.statements.Host.{HostedRun, HostedVerdict, HostedReport, HostedExists, NothingDropped, StoppedVerdict, ExaminedVerdict}
+use Rattle.demands.specs.statements.Host.{ExaminedReport}
+use Rattle.demands.proofs.Verdict.{passes, fails, unmeasured, on-the-way, examination, stopped-unmeasured, stopped-says}
 
 -- a run that is kept is the run that it was
 phase-back : (p : Phase) → phaseOf (phaseNumber p) ≡ p
@@ -36,54 +40,42 @@ phase-back Stopped = refl
 pub kept-back : (b : Bench) → runOf (keptRun b) ≡ b
 kept-back b = rw (phase-back (b .phase)) refl
 
--- a call with a whole store is a step
-step-is : (r : Run) (s piece : List ℕ) (n : ℕ) (r′ : Run) (s′ : List ℕ) → Steps r s piece n r′ s′ → length s ≡ 2880
-    → stateOf r′ s′ ≡ stepped (stateOf r s) piece
-step-is r s piece n r′ s′ S l = rw (S .run, S .store, eq-eqb _ _ l, kept-back (stepped (stateOf r s) piece .run)) refl
-
--- to step over bytes that begin with a piece is to step over the piece
-gives-step : (st : State) (bytes piece : List ℕ) → Gives bytes piece → stepped st bytes ≡ stepped st piece
-gives-step st bytes piece (inl e) = ap (stepped st) e
-gives-step st bytes piece (inr e) = sym (step-piece st bytes) ∙ ap (stepped st) e
+-- a call is a step
+step-is : (r : Run) (piece : List ℕ) (n : ℕ) (r′ : Run) → record { refusal = n; run = r′ } ≡ stepAnswer r piece → runOf r′ ≡ stepped (runOf r) piece
+step-is r piece n r′ e = ap (λ (x : Answer). runOf (x .run)) e ∙ kept-back (stepped (runOf r) piece)
 
 -- in two parts
-through-parts : (n : ℕ) (ps : List (List ℕ)) (st : State) → through (through st (take n ps)) (drop n ps) ≡ through st ps
+through-parts : (n : ℕ) (ps : List (List ℕ)) (b : Bench) → through (through b (take n ps)) (drop n ps) ≡ through b ps
 unfolding through
-through-parts zero ps st = refl
-through-parts (suc n) [] st = refl
-through-parts (suc n) (p ∷ ps) st = through-parts n ps (stepped st p)
+through-parts zero ps b = refl
+through-parts (suc n) [] b = refl
+through-parts (suc n) (p ∷ ps) b = through-parts n ps (stepped b p)
+
+-- calls of the step, one for each of the first n pieces: to step through them
+module _ (ps : List (List ℕ)) (runs : ℕ → Run) (numbers : ℕ → ℕ) (opened : runs 0 ≡ keptRun begun) where
+  so-far : (n : ℕ) → n ≤ length ps → ((k : ℕ) → k < n → record { refusal = numbers k; run = runs (suc k) } ≡ stepAnswer (runs k) (getD ps k []))
+      → runOf (runs n) ≡ through begun (take n ps)
+  unfolding through
+  so-far zero l step = ap runOf opened ∙ kept-back begun
+  so-far (suc n) l step =
+      step-is _ _ _ _ (step n (omega arith))
+      ∙ ap (λ (b : Bench). stepped b (getD ps n [])) (so-far n (omega arith) (λ k h. step k (omega arith)))
+      ∙ sym (on-the-way ps begun n l)
 
 module _ (s : List ℕ) (r : Run) (h : Hosted s r) where
-  abbrev state : ℕ → State
-  state k = stateOf (h .runs k) (h .stores k)
-
-  -- the store stays whole, and each state is what stepping through comes to
-  so-far : (k : ℕ) → k ≤ h .steps → (length (h .stores k) ≡ 2880) × (state k ≡ through (state 0) (take k (pieces s)))
-  unfolding through
-  so-far zero l = (h .store, refl)
-  so-far (suc k) l =
-      let before = so-far k (omega arith) in
-      let inside = h .inside in
-      let next : state (suc k) ≡ stepped (state k) (getD (pieces s) k []) = step-is _ _ _ _ _ _ (h .step k l) (before .0)
-      ∙ gives-step (state k) (h .given k) _ (h .piece k l) in (
-        ap (λ (st : State). length (st .store)) next ∙ store-stays (state k) (getD (pieces s) k []) (before .0),
-        next ∙ ap (λ (st : State). stepped st (getD (pieces s) k [])) (before .1) ∙ sym (on-the-way (pieces s) (state 0) k (omega arith)),
-      )
-
   -- what is left of the pieces changes nothing
-  all : (h .steps ≡ length (pieces s)) ⊎ (phaseOf (h .runs (h .steps) .phase) ≡ Stopped) → state (h .steps) ≡ through (state 0) (pieces s)
-  all (inl e) = so-far (h .steps) (omega arith) .1 ∙ ap (through (state 0)) (ap (λ (n : ℕ). take n (pieces s)) e ∙ take-length (pieces s))
+  all : (h .steps ≡ length (pieces s)) ⊎ (phaseOf (h .runs (h .steps) .phase) ≡ Stopped) → runOf (h .runs (h .steps)) ≡ through begun (pieces s)
+  all (inl e) =
+      so-far (pieces s) (h .runs) (h .numbers) (h .opened) (h .steps) (h .inside) (h .step)
+      ∙ ap (through begun) (ap (λ (n : ℕ). take n (pieces s)) e ∙ take-length (pieces s))
   all (inr e) =
-      sym (through-stays (state (h .steps)) e (drop (h .steps) (pieces s)))
-      ∙ ap (λ (st : State). through st (drop (h .steps) (pieces s))) (so-far (h .steps) (omega arith) .1)
-      ∙ through-parts (h .steps) (pieces s) (state 0)
+      sym (through-stays (runOf (h .runs (h .steps))) e (drop (h .steps) (pieces s)))
+      ∙ ap (λ (b : Bench). through b (drop (h .steps) (pieces s)))
+      (so-far (pieces s) (h .runs) (h .numbers) (h .opened) (h .steps) (h .inside) (h .step))
+      ∙ through-parts (h .steps) (pieces s) begun
 
-  comes-to : runOf r ≡ examined s .run
-  comes-to =
-      ap runOf (h .last)
-      ∙ ap (λ (st : State). st .run) (all (h .enough))
-      ∙ ap (λ (b : Bench). through (record { run = b; store = h .stores 0 }) (pieces s) .run) (ap runOf (h .opened) ∙ kept-back begun)
-      ∙ any-store s (h .stores 0)
+  comes-to : runOf r ≡ examined s
+  comes-to = ap runOf (h .last) ∙ all (h .enough) ∙ pieces-alike s
 
 pub hosted-run : HostedRun
 hosted-run = comes-to
@@ -108,75 +100,67 @@ numbered b c e v means = (
       (λ (y : Bench). verdictNumber (verdictOf y)) e ∙ ap verdictNumber (means .1 x),
 )
 
-pub hosted-verdict : HostedVerdict
+-- the verdict of the capture's run, by its number, is the one that is due
+pub due : (s : List ℕ) (b : Bench) → AllBytes s → b ≡ examined s → Due s (verdictNumber (verdictOf b))
 unfolding verdictNumber
-hosted-verdict s r B h =
-    let e = comes-to s r h in (
-      numbered (runOf r) (examined s .run) e Pass (passes s B),
-      numbered (runOf r) (examined s .run) e Fail (fails s B),
-      numbered (runOf r)
-          (examined s .run) e NotMeasured (unmeasured s B),
-    )
+due s b B e = (numbered b (examined s) e Pass (passes s B), numbered b (examined s) e Fail (fails s B), numbered b (examined s) e NotMeasured (unmeasured s B))
+
+pub hosted-verdict : HostedVerdict
+hosted-verdict s r B h = due s (runOf r) B (comes-to s r h)
+
+pub examined-verdict : ExaminedVerdict
+examined-verdict s B = due s (examined s) B refl
 
 pub hosted-report : HostedReport
-hosted-report s r h buffer l =
-    record {
-      run = runOf r;
-      walk = inl (comes-to s r h);
-      buffer = buffer;
-      out = written (runOf r) buffer;
-      bytes = writtenBytes
-          (runOf r) buffer;
-      holds = l;
-      answered = refl;
-      left = refl;
-      printed = refl;
-    }
+hosted-report s r h buffer l = examination s (runOf r) (comes-to s r h) buffer l
+
+pub examined-report : ExaminedReport
+examined-report s buffer l = examination s (examined s) refl buffer l
+
+-- ---- any bytes given
+
+pub nothing-dropped : NothingDropped
+unfolding verdictNumber
+nothing-dropped given r h = (run, λ B v. go B v run)
+  where
+    is : runOf r ≡ through begun given
+    is =
+        ap runOf (h .last) ∙ so-far given (h .runs) (h .numbers) (h .opened) (length given) (omega arith) (h .step)
+        ∙ ap (through begun) (take-length given)
+
+    run : (isStopped (runOf r .phase) ≡ true) ⊎ (runOf r ≡ examined (joined given))
+    run = subst (λ (b : Bench). (isStopped (b .phase) ≡ true) ⊎ (b ≡ examined (joined given))) (sym is) (nothing-passed-over given)
+
+    go : AllBytes (joined given) → verdictNumber (verdictOf (runOf r)) ≡ 1 → (isStopped (runOf r .phase) ≡ true) ⊎ (runOf r ≡ examined (joined given))
+        → (m : Measured (joined given)) × (flaggedWords m ≤ m .allowed)
+    go B v (inl e) =
+        let none : verdictNumber (verdictOf (runOf r)) ≡ 0 = ap verdictNumber (stopped-unmeasured (runOf r) (is-stopped (runOf r .phase) e)) in
+        absurd (let z = sym v ∙ none in omega arith)
+    go B v (inr e) = due (joined given) (runOf r) B e .0 .0 v
 
 -- ---- they exist
-module _ (s store : List ℕ) (l : length store ≡ 2880) where
-  begins : State
-  begins = record { run = runOf (keptRun begun); store = store }
-
-  at : ℕ → State
-  at k = through begins (take k (pieces s))
-
-  at-whole : (k : ℕ) → k ≤ length (pieces s) → length (at k .store) ≡ 2880
-  unfolding at begins through
-  at-whole zero h = l
-  at-whole (suc k) h =
-      ap (λ (st : State). length (st .store)) (on-the-way (pieces s) begins k h) ∙ store-stays (at k) (getD (pieces s) k []) (at-whole k (omega arith))
-
-  calls : Hosted s (keptRun (at (length (pieces s)) .run))
-  unfolding at begins through
-  calls =
+pub hosted-exists : HostedExists
+unfolding through
+hosted-exists s =
+    let at : ℕ → Bench = λ k. through begun (take k (pieces s)) in (
+      keptRun (at (length (pieces s))),
       record {
         steps = length (pieces s);
-        given = λ k. getD (pieces s) k [];
-        runs = λ k. keptRun (at k .run);
-        stores = λ k. at k .store;
-        numbers = λ k. stepRefusal (stateOf (keptRun (at k .run)) (at k .store)) (getD (pieces s) k []);
-        opened = ap keptRun (kept-back begun);
-        store = l;
-        piece = λ k h. inl refl;
-        step = λ k h. record {
-          number = rw (eq-eqb _ _ (at-whole k (omega arith))) refl;
-          run = rw (eq-eqb _ _ (at-whole k (omega arith)), kept-back (at k .run)) (ap (λ (st : State). keptRun (st .run)) (on-the-way (pieces s) begins k h));
-          store = rw (eq-eqb _ _ (at-whole k (omega arith)), kept-back (at k .run)) (ap (λ (st : State). st .store) (on-the-way (pieces s) begins k h));
-        };
+        runs = λ k. keptRun (at k);
+        numbers = λ k. stepRefusal (runOf (keptRun (at k))) (getD (pieces s) k []);
+        opened = refl;
+        step = λ k h. ap (λ (b : Bench). record { refusal = stepRefusal (runOf (keptRun (at k))) (getD (pieces s) k []); run = keptRun b })
+            (on-the-way (pieces s) begun k h ∙ ap (λ (b : Bench). stepped b (getD (pieces s) k [])) (sym (kept-back (at k))));
         inside = omega arith;
         enough = inl refl;
         last = refl;
-      }
-
-pub hosted-exists : HostedExists
-unfolding calls at begins through
-hosted-exists s store l = (keptRun (at s store l (length (pieces s)) .run), calls s store l, refl)
+      },
+    )
 
 pub stopped-verdict : StoppedVerdict
 unfolding verdictNumber
 stopped-verdict r =
     let e = kept-back (stopped (runOf r)) in (
-      ap (λ (b : Bench). verdictNumber (verdictOf b)) e ∙ ap verdictNumber (stopped-unmeasured (runOf r)),
+      ap (λ (b : Bench). verdictNumber (verdictOf b)) e ∙ ap verdictNumber (stopped-unmeasured (stopped (runOf r)) refl),
       subst (λ (b : Bench). Line "verdict NOT MEASURED" (text b)) (sym e) (stopped-says (runOf r)),
     )

@@ -1,5 +1,8 @@
 pub mod Hit
+pub mod Symbols
 pub mod Return
+pub mod Stores
+pub mod Flags
 pub mod Trial
 pub mod OneForAll
 pub mod Tallies
@@ -9,9 +12,12 @@ pub mod ReedSolomon
 pub mod Exceeded
 pub mod Measured
 pub mod Numbers
+pub mod Arriving
 pub mod Walked
 pub mod Lines
 pub mod Verdict
-pub mod Theorems
-pub mod Empty
+pub mod Reports
 pub mod Host
+pub mod OwnAccount
+pub mod Empty
+pub mod Theorems

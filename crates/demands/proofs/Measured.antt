@@ -8,7 +8,6 @@ use Prim.Native.Nat.{ℕ, zero, suc, _+_, _*_, _-_, _%_, _^_, _≤_, _<_}
 use native.Mathlib.Decide.{ℕ-discrete}
 use native.Mathlib.Omega.{arith}
 use lib.Dec.{eqb}
-use lib.ListN.{replicate}
 use borrow.Author.Tests.{ne-eqb}
 use Rattle.bits.proofs.Count.{count-cong}
 use Rattle.decoder.specs.declared.Mend.{Mend}
@@ -16,7 +15,7 @@ use Rattle.decoder.specs.declared.Mend.the-variants.{Clean, One, Two, Flagged}
 use Rattle.decoder.specs.definitions.Mend.{mend, flagOf}
 use Rattle.symbols.specs.definitions.Frame.{arrived}
 use Rattle.pilots.specs.definitions.Pilots.{locks}
-use Rattle.framing.specs.definitions.Receive.{receivedStore, receivedFlags}
+use Rattle.framing.specs.definitions.Receive.{receivedFlags}
 use Rattle.framing.proofs.Received.{flag-at}
 use Rattle.account.specs.declared.Account.{Account}
 use Rattle.account.specs.declared.Entry.{Entry}
@@ -29,9 +28,10 @@ use Rattle.account.proofs.Kept.{brings}
 use Rattle.capture.specs.declared.Read.{Read}
 use Rattle.capture.specs.declared.Read.the-variants.{End, Refused, Order, Frame}
 use Rattle.capture.specs.definitions.Capture.{readAt, nextOf, symbolsAt, frameNumber}
+use Rattle.bench.specs.declared.Run.{Run}
 use Rattle.bench.specs.declared.Phase.{Phase}
 use Rattle.bench.specs.declared.Phase.the-variants.{Unordered, Going, Stopped}
-use Rattle.bench.specs.definitions.Run.{State, noted, entryOf, framed, orderCame, frameCame, halted, cameAs, goesOn}
+use Rattle.bench.specs.definitions.Run.{afterEntry, entryOf, framed, orderCame, frameCame, halted, cameAs, goesOn}
 use Rattle.bench.specs.definitions.Walk.{walked}
 use Rattle.bench.proofs.Walk.{came-stays, refused-stops}
 use Rattle.demands.specs.definitions.Verdict.{wordsWith, wordsIn}
@@ -69,11 +69,6 @@ all-words frames (suc k) = omega (arith, all-words frames k, words-due (frames k
 
 -- ---- frames in their turn
 
--- the store after k frames from a fresh one
-unfoldable pub storeAfter : (ℕ → List ℕ) → ℕ → List ℕ
-storeAfter frames zero = replicate 2880 0
-storeAfter frames (suc k) = receivedStore (frames k) (storeAfter frames k)
-
 module _ (start : ℕ) (frames : ℕ → List ℕ) where
   -- the account after k frames in their turn
   abbrev pub allAccepted : ℕ → Account
@@ -105,24 +100,24 @@ module _ (start : ℕ) (frames : ℕ → List ℕ) where
 
 module _ (start asked allowed : ℕ) (frames : ℕ → List ℕ) where
   -- the run after an order and k frames in their turn
-  abbrev pub after : ℕ → State
-  after k = record { run = record { phase = Going; asked = asked; allowed = allowed; account = allAccepted start frames k }; store = storeAfter frames k }
+  abbrev pub after : ℕ → Run
+  after k = record { phase = Going; asked = asked; allowed = allowed; account = allAccepted start frames k }
 
   pub framed-next : (k : ℕ) → k < frameLimit → locks (frames k) 0 ≡ true → framed (after k) (frameNumber start k) (frames k) ≡ after (suc k)
-  unfolding framed entryOf storeAfter
+  unfolding entryOf
   framed-next k h l = rw (l, tallies-are (allAccepted start frames k) (frameNumber start k) (frames k), sym (entered-next start frames k h)) refl
 
 -- ---- a run that loses its turn once
 
 -- stopped, or with a frame missing
-abbrev pub Lost : State → Type 0
-Lost st = (st .run .phase ≡ Stopped) ⊎ ((st .run .phase ≡ Going) × (1 ≤ st .run .account .missing))
+abbrev pub Lost : Run → Type 0
+Lost run = (run .phase ≡ Stopped) ⊎ ((run .phase ≡ Going) × (1 ≤ run .account .missing))
 
 -- an entry in a run that goes on: it is refused and stops the run, or the account has the frames missing that it should have
-noted-lost : (st : State) (e : Entry) (s : List ℕ) → (e .refusal ≡ 0 → 1 ≤ e .account .missing) → Lost (noted st e s)
-noted-lost st e s h = go (ℕ-discrete (e .refusal) 0)
+entry-lost : (run : Run) (e : Entry) → (e .refusal ≡ 0 → 1 ≤ e .account .missing) → Lost (afterEntry run e)
+entry-lost run e h = go (ℕ-discrete (e .refusal) 0)
   where
-    go : Dec (e .refusal ≡ 0) → Lost (noted st e s)
+    go : Dec (e .refusal ≡ 0) → Lost (afterEntry run e)
     go (yes z) = rw z (inr (refl, h z))
     go (no n) = rw (ne-eqb (e .refusal) 0 n) (inl refl)
 
@@ -133,42 +128,42 @@ frame-missing a got t h z = rw (frame-taken a got t z .taken) h
 loss-missing : (a : Account) (got : ℕ) → lossEntered a got .refusal ≡ 0 → 1 ≤ lossEntered a got .account .missing
 loss-missing a got z = rw (loss-taken a got z .taken) (omega arith)
 
-framed-lost : (st : State) (got : ℕ) (f : List ℕ) → (1 ≤ st .run .account .missing + ahead got (st .run .account .expected)) ⊎ (locks f 0 ≡ false)
-    → Lost (framed st got f)
-unfolding framed entryOf
-framed-lost st got f h = go (locks f 0) refl h
+framed-lost : (run : Run) (got : ℕ) (f : List ℕ) → (1 ≤ run .account .missing + ahead got (run .account .expected)) ⊎ (locks f 0 ≡ false)
+    → Lost (framed run got f)
+unfolding entryOf
+framed-lost run got f h = go (locks f 0) refl h
   where
-    lost : Lost (noted st (lossEntered (st .run .account) got) (st .store))
-    lost = noted-lost st (lossEntered (st .run .account) got) (st .store) (loss-missing (st .run .account) got)
+    lost : Lost (afterEntry run (lossEntered (run .account) got))
+    lost = entry-lost run (lossEntered (run .account) got) (loss-missing (run .account) got)
 
-    go : (l : Bool) → locks f 0 ≡ l → (1 ≤ st .run .account .missing + ahead got (st .run .account .expected)) ⊎ (locks f 0 ≡ false) → Lost (framed st got f)
+    go : (l : Bool) → locks f 0 ≡ l → (1 ≤ run .account .missing + ahead got (run .account .expected)) ⊎ (locks f 0 ≡ false) → Lost (framed run got f)
     go false e c = rw e lost
     go true e (inl m) =
         rw e
-        (noted-lost st (frameEntered (st .run .account) got (talliesOf (st .run .account) got (receivedFlags f))) (receivedStore f (st .store))
-        (frame-missing (st .run .account) got (talliesOf (st .run .account) got (receivedFlags f)) m))
+        (entry-lost run (frameEntered (run .account) got (talliesOf (run .account) got (receivedFlags f)))
+        (frame-missing (run .account) got (talliesOf (run .account) got (receivedFlags f)) m))
     go true e (inr n) = absurd (false≢true (sym n ∙ e))
 
-came-lost : (read : Read) (st : State) (s : List ℕ) → st .run .phase ≡ Going → 1 ≤ st .run .account .missing → Lost (cameAs read st s)
+came-lost : (read : Read) (run : Run) (s : List ℕ) → run .phase ≡ Going → 1 ≤ run .account .missing → Lost (cameAs read run s)
 unfolding cameAs orderCame frameCame
-came-lost End st s g m = inr (g, m)
-came-lost (Refused refusal) st s g m = inl (refused-stops st s refusal)
-came-lost (Order start asked allowed next) st s g m = rw g (inl refl)
-came-lost (Frame number from next) st s g m =
-    subst (λ (p : Phase). Lost (frameCame p st number (symbolsAt s from))) (sym g) (framed-lost st number (symbolsAt s from) (inl (omega arith)))
+came-lost End run s g m = inr (g, m)
+came-lost (Refused refusal) run s g m = inl (refused-stops run s refusal)
+came-lost (Order start asked allowed next) run s g m = rw g (inl refl)
+came-lost (Frame number from next) run s g m =
+    subst (λ (p : Phase). Lost (frameCame p run number (symbolsAt s from))) (sym g) (framed-lost run number (symbolsAt s from) (inl (omega arith)))
 
 -- never finds it again
-pub walked-lost : (n : ℕ) (s : List ℕ) (i : ℕ) (st : State) → Lost st → Lost (walked n s i st)
+pub walked-lost : (n : ℕ) (s : List ℕ) (i : ℕ) (run : Run) → Lost run → Lost (walked n s i run)
 unfolding walked
-walked-lost zero s i st h = h
-walked-lost (suc n) s i st (inl p) = walked-lost n s (nextOf (readAt s i) i) (cameAs (readAt s i) st s) (rw (came-stays st p (readAt s i) s) (inl p))
-walked-lost (suc n) s i st (inr (g, m)) = walked-lost n s (nextOf (readAt s i) i) (cameAs (readAt s i) st s) (came-lost (readAt s i) st s g m)
+walked-lost zero s i run h = h
+walked-lost (suc n) s i run (inl p) = walked-lost n s (nextOf (readAt s i) i) (cameAs (readAt s i) run s) (rw (came-stays run p (readAt s i) s) (inl p))
+walked-lost (suc n) s i run (inr (g, m)) = walked-lost n s (nextOf (readAt s i) i) (cameAs (readAt s i) run s) (came-lost (readAt s i) run s g m)
 
 -- and is never measured
-pub lost-never : (st : State) (asked : ℕ) → Lost st → goesOn (st .run .phase) ≡ true → measured asked (st .run .account) ≡ true → ⊥
+pub lost-never : (run : Run) (asked : ℕ) → Lost run → goesOn (run .phase) ≡ true → measured asked (run .account) ≡ true → ⊥
 unfolding goesOn
-lost-never st asked (inl p) g m = false≢true (ap goesOn (sym p) ∙ g)
-lost-never st asked (inr (q, h)) g m = let z = measured-means asked (st .run .account) m .none-missing in omega arith
+lost-never run asked (inl p) g m = false≢true (ap goesOn (sym p) ∙ g)
+lost-never run asked (inr (q, h)) g m = let z = measured-means asked (run .account) m .none-missing in omega arith
 
 -- a number that is not the expected one lies ahead of it
 other : (number m : ℕ) → number < 2 ^ 32 → number ≢ m % 2 ^ 32 → 1 ≤ 0 + ahead number (m % 2 ^ 32)
@@ -180,11 +175,11 @@ other number m h n = at (ℕ-discrete ((number + (2 ^ 32 - m % 2 ^ 32)) % 2 ^ 32
     at (no z) = omega arith
 
 -- a refused frame stops the run
-refused-lost : (st : State) (got : ℕ) (f : List ℕ) → locks f 0 ≡ true
-    → frameEntered (st .run .account) got (talliesOf (st .run .account) got (receivedFlags f)) .refusal ≢ 0
-    → Lost (framed st got f)
-unfolding framed entryOf
-refused-lost st got f l n = rw (l, ne-eqb _ 0 n) (inl refl)
+refused-lost : (run : Run) (got : ℕ) (f : List ℕ) → locks f 0 ≡ true
+    → frameEntered (run .account) got (talliesOf (run .account) got (receivedFlags f)) .refusal ≢ 0
+    → Lost (framed run got f)
+unfolding entryOf
+refused-lost run got f l n = rw (l, ne-eqb _ 0 n) (inl refl)
 
 -- a frame that comes after k frames in their turn: it is the next one, or the turn is lost
 module _ (start asked allowed : ℕ) (frames : ℕ → List ℕ) where
@@ -210,59 +205,59 @@ module _ (start asked allowed : ℕ) (frames : ℕ → List ℕ) where
 
 -- ---- 384 words for each frame accepted, in every run
 
-abbrev Counted : State → Type 0
-Counted st = total (st .run .account .words) ≡ 384 * st .run .account .accepted
+abbrev Counted : Run → Type 0
+Counted run = total (run .account .words) ≡ 384 * run .account .accepted
 
-noted-counted : (st : State) (e : Entry) (s : List ℕ) → Counted st → (e .refusal ≡ 0 → total (e .account .words) ≡ 384 * e .account .accepted)
-    → Counted (noted st e s)
-noted-counted st e s C h = go (ℕ-discrete (e .refusal) 0)
+entry-counted : (run : Run) (e : Entry) → Counted run → (e .refusal ≡ 0 → total (e .account .words) ≡ 384 * e .account .accepted)
+    → Counted (afterEntry run e)
+entry-counted run e C h = go (ℕ-discrete (e .refusal) 0)
   where
-    go : Dec (e .refusal ≡ 0) → Counted (noted st e s)
+    go : Dec (e .refusal ≡ 0) → Counted (afterEntry run e)
     go (yes z) = rw z (h z)
     go (no n) = rw (ne-eqb (e .refusal) 0 n) C
 
-framed-counted : (st : State) (got : ℕ) (f : List ℕ) → Counted st → Counted (framed st got f)
-unfolding framed entryOf
-framed-counted st got f C = go (locks f 0) refl
+framed-counted : (run : Run) (got : ℕ) (f : List ℕ) → Counted run → Counted (framed run got f)
+unfolding entryOf
+framed-counted run got f C = go (locks f 0) refl
   where
     a : Account
-    a = st .run .account
+    a = run .account
 
     t : Tallies
     t = talliesOf a got (receivedFlags f)
 
-    go : (l : Bool) → locks f 0 ≡ l → Counted (framed st got f)
+    go : (l : Bool) → locks f 0 ≡ l → Counted (framed run got f)
     go true e =
-        rw e (noted-counted st (frameEntered a got t) (receivedStore f (st .store)) C
+        rw e (entry-counted run (frameEntered a got t) C
         (λ z. let T = frame-taken a got t z in rw (T .taken) (let d = T .all-due in omega arith)))
-    go false e = rw e (noted-counted st (lossEntered a got) (st .store) C (λ z. rw (loss-taken a got z .taken) (omega arith)))
+    go false e = rw e (entry-counted run (lossEntered a got) C (λ z. rw (loss-taken a got z .taken) (omega arith)))
 
-order-counted : (p : Phase) (st : State) (start asked allowed : ℕ) → Counted st → Counted (orderCame p st start asked allowed)
+order-counted : (p : Phase) (run : Run) (start asked allowed : ℕ) → Counted run → Counted (orderCame p run start asked allowed)
 unfolding orderCame
-order-counted Unordered st start asked allowed C = refl
-order-counted Going st start asked allowed C = C
-order-counted Stopped st start asked allowed C = C
+order-counted Unordered run start asked allowed C = refl
+order-counted Going run start asked allowed C = C
+order-counted Stopped run start asked allowed C = C
 
-frame-counted : (p : Phase) (st : State) (got : ℕ) (f : List ℕ) → Counted st → Counted (frameCame p st got f)
+frame-counted : (p : Phase) (run : Run) (got : ℕ) (f : List ℕ) → Counted run → Counted (frameCame p run got f)
 unfolding frameCame
-frame-counted Unordered st got f C = C
-frame-counted Going st got f C = framed-counted st got f C
-frame-counted Stopped st got f C = C
+frame-counted Unordered run got f C = C
+frame-counted Going run got f C = framed-counted run got f C
+frame-counted Stopped run got f C = C
 
-halted-counted : (p : Phase) (st : State) → Counted st → total (halted p (st .run) .account .words) ≡ 384 * halted p (st .run) .account .accepted
+halted-counted : (p : Phase) (run : Run) → Counted run → total (halted p run .account .words) ≡ 384 * halted p run .account .accepted
 unfolding halted
-halted-counted Unordered st C = C
-halted-counted Going st C = C
-halted-counted Stopped st C = C
+halted-counted Unordered run C = C
+halted-counted Going run C = C
+halted-counted Stopped run C = C
 
-came-counted : (read : Read) (st : State) (s : List ℕ) → Counted st → Counted (cameAs read st s)
+came-counted : (read : Read) (run : Run) (s : List ℕ) → Counted run → Counted (cameAs read run s)
 unfolding cameAs
-came-counted End st s C = C
-came-counted (Refused refusal) st s C = halted-counted (st .run .phase) st C
-came-counted (Order start asked allowed next) st s C = order-counted (st .run .phase) st start asked allowed C
-came-counted (Frame number from next) st s C = frame-counted (st .run .phase) st number (symbolsAt s from) C
+came-counted End run s C = C
+came-counted (Refused refusal) run s C = halted-counted (run .phase) run C
+came-counted (Order start asked allowed next) run s C = order-counted (run .phase) run start asked allowed C
+came-counted (Frame number from next) run s C = frame-counted (run .phase) run number (symbolsAt s from) C
 
-pub walked-counted : (n : ℕ) (s : List ℕ) (i : ℕ) (st : State) → Counted st → Counted (walked n s i st)
+pub walked-counted : (n : ℕ) (s : List ℕ) (i : ℕ) (run : Run) → Counted run → Counted (walked n s i run)
 unfolding walked
-walked-counted zero s i st C = C
-walked-counted (suc n) s i st C = walked-counted n s (nextOf (readAt s i) i) (cameAs (readAt s i) st s) (came-counted (readAt s i) st s C)
+walked-counted zero s i run C = C
+walked-counted (suc n) s i run C = walked-counted n s (nextOf (readAt s i) i) (cameAs (readAt s i) run s) (came-counted (readAt s i) run s C)

@@ -3,14 +3,14 @@
 -- Assumes nothing.
 use mathlib.Core.Path.{_≡_, refl, sym, ap, ap₂, _∙_, subst}
 use mathlib.Core.Logic.{_≢_, ⊎-elim}
-use mathlib.Core.Bool.{Bool, true, false, not, _&&_, false≢true}
+use mathlib.Core.Bool.{Bool, true, false, not, cond, _&&_, false≢true}
 use mathlib.Core.List.{List}
 use Prim.Native.Nat.{ℕ, zero, suc, _+_, _*_, _-_, _/_, _%_, _^_, _≤_, _<_}
 use native.Mathlib.Nat.{zero-div}
 use native.Mathlib.Omega.{arith}
-use lib.Dec.{eqb, ltb}
+use lib.Dec.{T, eqb, ltb}
 use lib.Bits.{differ}
-use borrow.Author.Tests.{ltb-true, eqb-true, eqb-false, not-true, lt-ltb, eq-eqb}
+use borrow.Author.Tests.{ltb-true, ltb-false, eqb-true, eqb-false, not-true, lt-ltb, eq-eqb}
 use Rattle.bits.specs.definitions.Bits.{bitOf}
 use Rattle.bits.proofs.Count.{count-some, count-pos}
 use Rattle.decoder.proofs.Theorems.{two-vanish}
@@ -22,11 +22,10 @@ use Rattle.lanes.proofs.Return.{across, across-lt, across-place, permuted-acros
 use Rattle.symbols.specs.definitions.Frame.{arrived}
 use Rattle.symbols.proofs.Return.{arrived-lt}
 use Rattle.framing.specs.definitions.Receive.{broughtLanes}
-use Rattle.framing.specs.definitions.Call.{base}
 use Rattle.framing.proofs.Stream.{block-rule}
 use Rattle.framing.proofs.Received.{passedOn, brought-bit}
 use Rattle.demands.specs.definitions.Trial.{Trial, Accepted, flipsIn}
-use Rattle.demands.specs.definitions.ReedSolomon.{Labels, Labelled, carries, Has, heavyWords, wrongSymbol, wrongSymbols}
+use Rattle.demands.specs.definitions.ReedSolomon.{Labels, Labelled, carries, Has, heavy, heavyWords, wrongSymbol, wrongSymbols}
 use Rattle.demands.specs.statements.ReedSolomon.{CarriesExactly, ReedSolomonBound, Bounded, FourPairs}
 use Rattle.demands.proofs.Trial.{differs-by}
 use Rattle.demands.proofs.LaneCounts.{both, left, right, lanes-inject}
@@ -139,6 +138,15 @@ carries-exactly ex n label = (
   ),
 )
 
+-- a word is heavy exactly where more than two flips hit it
+pub heavy-more : (flips : ℕ → List ℕ) (p w : ℕ) → heavy flips p w ≡ true → 2 < flipsIn flips p w
+unfolding heavy
+heavy-more flips p w e = omega (arith, ltb-true)
+
+light-two : (flips : ℕ → List ℕ) (p w : ℕ) → heavy flips p w ≡ false → flipsIn flips p w ≤ 2
+unfolding heavy
+light-two flips p w e = omega (arith, ltb-false)
+
 -- what at most two flips leave of a word is nothing
 left-nothing : (flips : ℕ → List ℕ) (q w k : ℕ) → q < 32 → k < 110 → flipsIn flips q w ≤ 2 → streamBit (λ f. broughtLanes (flips f)) q (110 * w + k) ≡ 0
 unfolding flipsIn passedOn bitOf
@@ -171,24 +179,26 @@ module _ {ex : Places} {n : ℕ} {flips lanes room outs flagBuffers : ℕ → Li
       ∙ differ-none (streamBit (t .cleanBack) p (10 * (s + 144) + k))
 
   -- so a wrong one was carried in a word that more than two hit
-  wrong-heavy : (p s : ℕ) → p < 32 → s + 144 < 132 * n → wrongSymbol (t .back) (t .cleanBack) p s ≡ true → 2 < flipsIn flips (across ex p s) (slot s / 11)
+  wrong-heavy : (p s : ℕ) → p < 32 → s + 144 < 132 * n → wrongSymbol (t .back) (t .cleanBack) p s ≡ true
+      → heavy flips (across ex p s) (slot s / 11) ≡ true
   unfolding wrongSymbol
-  wrong-heavy p s hp hs wrong =
-      let r = count-some (λ k. not (eqb (streamBit (t .back) p (10 * (s + 144) + k)) (streamBit (t .cleanBack) p (10 * (s + 144) + k)))) 10
-      (ltb-true 0 _ wrong) in
-      ⊎-elim (λ (h : 2 < flipsIn flips (across ex p s) (slot s / 11)). h)
-      (λ (h : flipsIn flips (across ex p s) (slot s / 11) ≤ 2).
-      absurd (eqb-false (streamBit (t .back) p (10 * (s + 144) + r .0)) (streamBit (t .cleanBack) p (10 * (s + 144) + r .0)) (not-true _ (r .2))
-      (right-bit p s (r .0) hp hs (r .1) h)))
-      (lt-or-le 2 (flipsIn flips (across ex p s) (slot s / 11)))
+  wrong-heavy p s hp hs wrong = go (heavy flips (across ex p s) (slot s / 11)) refl
+    where
+      go : (b : Bool) → heavy flips (across ex p s) (slot s / 11) ≡ b → b ≡ true
+      go true e = refl
+      go false e =
+          let r = count-some (λ k. not (eqb (streamBit (t .back) p (10 * (s + 144) + k)) (streamBit (t .cleanBack) p (10 * (s + 144) + k)))) 10
+          (ltb-true 0 _ wrong) in
+          absurd (eqb-false (streamBit (t .back) p (10 * (s + 144) + r .0)) (streamBit (t .cleanBack) p (10 * (s + 144) + r .0)) (not-true _ (r .2))
+          (right-bit p s (r .0) hp hs (r .1) (light-two flips (across ex p s) (slot s / 11) e)))
 
   -- the tests that are counted
   module _ (label : Labels) (c : ℕ) where
     abbrev wrong : ℕ → ℕ → Bool
     wrong p s = ltb (s + 144) (132 * n) && wrongSymbol (t .back) (t .cleanBack) p s && eqb (label p s) c
 
-    abbrev heavy : ℕ → ℕ → Bool
-    heavy p w = ltb 2 (flipsIn flips p w) && carries ex label c p w
+    abbrev carrier : ℕ → ℕ → Bool
+    carrier p w = heavy flips p w && carries ex label c p w
 
     returned : (p s : ℕ) → wrong p s ≡ true → s + 144 < 132 * n
     returned p s w = ltb-true (s + 144) (132 * n) (left (ltb (s + 144) (132 * n)) _ (left _ (eqb (label p s) c) w))
@@ -196,19 +206,19 @@ module _ {ex : Places} {n : ℕ} {flips lanes room outs flagBuffers : ℕ → Li
     symbol-of : (p s : ℕ) → wrong p s ≡ true → label p s ≡ c
     symbol-of p s w = eqb-true (label p s) c (right (ltb (s + 144) (132 * n) && wrongSymbol (t .back) (t .cleanBack) p s) (eqb (label p s) c) w)
 
-    its-word : (p s : ℕ) → p < 32 → wrong p s ≡ true → (across ex p s < 32) × (slot s / 11 < 12 * n) × (heavy (across ex p s) (slot s / 11) ≡ true)
+    its-word : (p s : ℕ) → p < 32 → wrong p s ≡ true → (across ex p s < 32) × (slot s / 11 < 12 * n) × (carrier (across ex p s) (slot s / 11) ≡ true)
     its-word p s hp w =
         let h : s + 144 < 132 * n = returned p s w in (
           across-lt ex p s hp,
           omega arith,
-          both (lt-ltb 2 _ (wrong-heavy p s hp h (right (ltb (s + 144) (132 * n)) _ (left _ (eqb (label p s) c) w))))
+          both (wrong-heavy p s hp h (right (ltb (s + 144) (132 * n)) _ (left _ (eqb (label p s) c) w)))
               (subst (λ (d : ℕ). carries ex label d (across ex p s) (slot s / 11) ≡ true) (symbol-of p s w) (carries-its ex label p s hp)),
         )
 
     bound : ex 0 ≢ ex 2 → ex 1 ≢ ex 3 → Labelled n label → wrongSymbols n (t .back) (t .cleanBack) label c ≤ heavyWords ex n flips label c
     unfolding heavyWords wrongSymbols
     bound even odd L =
-        lanes-inject wrong (132 * n) heavy (12 * n) (across ex) (λ _ s. slot s / 11) (λ p s hp hs. its-word p s hp)
+        lanes-inject wrong (132 * n) carrier (12 * n) (across ex) (λ _ s. slot s / 11) (λ p s hp hs. its-word p s hp)
         (λ p q s u hp hq hs hu w v. one-a-word ex even odd n label L p q s u hp hq hs hu (symbol-of p s w ∙ sym (symbol-of q u v)))
 
 pub reed-solomon-bound : ReedSolomonBound
@@ -216,18 +226,22 @@ reed-solomon-bound ex even odd n flips lanes room outs flagBuffers t accepted la
 
 -- ---- the four pairs
 
-bounded : (ex : Places) → ex 0 ≢ ex 2 → ex 1 ≢ ex 3 → Bounded ex
+-- one of two places is exchanged, and the other is not
+abbrev apart : Bool → Bool → Bool
+apart a b = cond a (not b) b
+
+apart-differ : (a b : Bool) → T (apart a b) → a ≢ b
+apart-differ true true t e = t
+apart-differ true false t e = false≢true (sym e)
+apart-differ false true t e = false≢true e
+apart-differ false false t e = t
+
+bounded : (ex : Places) → T (apart (ex 0) (ex 2)) → T (apart (ex 1) (ex 3)) → Bounded ex
 bounded ex even odd n flips lanes room outs flagBuffers t accepted before label S =
-    reed-solomon-bound ex even odd n flips lanes room outs flagBuffers t accepted label (spans-label n before label S)
+    reed-solomon-bound ex (apart-differ (ex 0) (ex 2) even) (apart-differ (ex 1) (ex 3) odd) n flips lanes room outs flagBuffers t accepted label
+    (spans-label n before label S)
 
-yes-no : true ≢ false
-yes-no e = false≢true (sym e)
-
+-- in each pair one of 0 and 2, and one of 1 and 3
 pub four-pairs : FourPairs
 unfolding named
-four-pairs = (
-  bounded base false≢true false≢true,
-  bounded (named 3) yes-no yes-no,
-  bounded (named 9) yes-no false≢true,
-  bounded (named 6) false≢true yes-no,
-)
+four-pairs = (bounded _ tt tt, bounded _ tt tt, bounded _ tt tt, bounded _ tt tt)

@@ -81,7 +81,7 @@ module _ (ex : Places) (n : ℕ) (lanes room : ℕ → List ℕ) (sentNumbers : 
 
       clean-length : (f : ℕ) → f < n → length (back f) ≡ 5280
       clean-length f h =
-          ap length (call-done ex n frames outs flagBuffers numbers stores back flagBytes R f h (accepted f h) .1) ∙ lanes-length ex (frames f) (stores f)
+          ap length (call-done ex n frames outs flagBuffers numbers stores back flagBytes R f h (accepted f h) .1) ∙ lanes-length ex _ (stores f)
 
       clean-flags : (f : ℕ) → f < n → flagBytes f ≡ replicate 384 0
       clean-flags f h =
@@ -102,8 +102,8 @@ return ex n lanes sentNumbers numbers back flagBytes U = (
     clean-flags ex n lanes (U .room) sentNumbers (U .frames) (U .sentStores) (U .sent) (U .outs) (U .flagBuffers) numbers (U .stores) back flagBytes
         (U .received) accepted f h,
   ),
-  λ p i hp early hi. came p i hp hi ∙ back-early ex (streamBit lanes) p i early,
-  λ p i hp hi. came p (i + 1440) hp hi ∙ back-late ex (streamBit lanes) p i hp,
+  λ p i hp early hi. came p i hp hi ∙ back-early ex (streamBit lanes) p i (omega arith),
+  λ p i hp hi. came p _ hp hi ∙ late p i _ hp (omega arith),
 )
   where
     accepted : (f : ℕ) → f < n → numbers f ≡ 0
@@ -115,6 +115,10 @@ return ex n lanes sentNumbers numbers back flagBytes U = (
     came =
         clean-back ex n lanes (U .room) sentNumbers (U .frames) (U .sentStores) (U .sent) (U .outs) (U .flagBuffers) numbers (U .stores) back flagBytes
         (U .received) accepted
+
+    -- 36 blocks later, and no other number
+    late : (p i j : ℕ) → p < 32 → j ≡ i + 1440 → deinterleaved ex (interleaved ex (streamBit lanes)) p j ≡ streamBit lanes p i
+    late p i j hp e = ap (deinterleaved ex (interleaved ex (streamBit lanes)) p) e ∙ back-late ex (streamBit lanes) p i hp
 
 -- one frame: every byte has eight bits of the first 36 blocks
 pub one-frame : OneFrame

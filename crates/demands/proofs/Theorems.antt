@@ -1,14 +1,25 @@
--- The demands over streams, captures and a host's calls, all of them proved.
+-- The demands over words, streams and captures, and those for a host in C, all of them proved.
 -- Assumes nothing.
 use Rattle.demands.specs.statements.Demands.{Demands}
+use Rattle.demands.specs.statements.Calls.{Calls}
+use Rattle.decoder.proofs.Theorems.{mends-two, flagged-exactly, smallest-distance}
+use Rattle.account.proofs.Kept.{kept-from-order}
+use Rattle.framing.proofs.Stream.{block-rule}
+use Rattle.framing.proofs.Figures.{bench-figures}
+use Rattle.demands.proofs.Symbols.{symbol-rule}
 use Rattle.demands.proofs.Return.{return, one-frame}
+use Rattle.demands.proofs.Stores.{stores-hold, last-kept}
+use Rattle.demands.proofs.Flags.{flags-exactly}
 use Rattle.demands.proofs.Trial.{refused-exactly, flips-counted, trials-exist, undamaged-exist}
 use Rattle.demands.proofs.OneForAll.{one-for-all, two-flips}
 use Rattle.demands.proofs.Tallies.{tallies-alike}
 use Rattle.demands.proofs.Numbers.{step-numbers}
 use Rattle.demands.proofs.Verdict.{pass-exactly, fail-exactly, not-measured-exactly, program-says, measured-once, examinations-exist, arrived-always}
 use Rattle.demands.proofs.Verdict.{never-pass, all-counted, always-counted}
-use Rattle.demands.proofs.Host.{hosted-run, hosted-verdict, hosted-report, hosted-exists, stopped-verdict}
+use Rattle.demands.proofs.Reports.{reports-alike}
+use Rattle.demands.proofs.Host.{examined-verdict, examined-report, hosted-run, hosted-verdict, hosted-report, hosted-exists, nothing-dropped}
+use Rattle.demands.proofs.Host.{stopped-verdict}
+use Rattle.demands.proofs.OwnAccount.{own-verdict}
 use Rattle.demands.proofs.Labels.{spans-label}
 use Rattle.demands.proofs.ReedSolomon.{carries-exactly, reed-solomon-bound, four-pairs}
 use Rattle.demands.proofs.Exceeded.{spans-exist, other-places, other-pairs}
@@ -17,10 +28,19 @@ pub demands : Demands
 demands =
     record {
       stepNumbers = step-numbers;
+      symbols = symbol-rule;
+      blocks = block-rule;
+      figures = bench-figures;
       returns = return;
       oneFrame = one-frame;
       undamaged = undamaged-exist;
+      stores = stores-hold;
+      lastKept = last-kept;
+      mendsTwo = mends-two;
       twoFlips = two-flips;
+      distance = smallest-distance;
+      flagged = flagged-exactly;
+      flagBytes = flags-exactly;
       pass = pass-exactly;
       fail = fail-exactly;
       notMeasured = not-measured-exactly;
@@ -31,13 +51,10 @@ demands =
       arrived = arrived-always;
       allCounted = all-counted;
       alwaysCounted = always-counted;
-      hostedRun = hosted-run;
-      hostedVerdict = hosted-verdict;
-      hostedReport = hosted-report;
-      hosted = hosted-exists;
-      stopped = stopped-verdict;
+      kept = kept-from-order;
       oneForAll = one-for-all;
       tallies = tallies-alike;
+      reports = reports-alike;
       trials = trials-exist;
       refused = refused-exactly;
       flips = flips-counted;
@@ -48,4 +65,18 @@ demands =
       pairs = four-pairs;
       elsewhere = other-places;
       otherPairs = other-pairs;
+    }
+
+pub calls : Calls
+calls =
+    record {
+      examinedVerdict = examined-verdict;
+      examinedReport = examined-report;
+      hostedRun = hosted-run;
+      hostedVerdict = hosted-verdict;
+      hostedReport = hosted-report;
+      hosted = hosted-exists;
+      nothingDropped = nothing-dropped;
+      stopped = stopped-verdict;
+      ownVerdict = own-verdict;
     }

@@ -25,7 +25,8 @@ use Rattle.capture.proofs.Cases.{at-end}
 use Rattle.capture.proofs.Local.{reads-from-here}
 use Rattle.capture.proofs.Records.{records}
 use Rattle.bench.specs.declared.Run.{Run}
-use Rattle.bench.specs.definitions.Run.{State, fresh, stopped, stepped, goesOn, verdictOf}
+use Rattle.bench.specs.declared.Phase.the-variants.{Stopped}
+use Rattle.bench.specs.definitions.Run.{begun, stopped, stepped, goesOn, verdictOf}
 use Rattle.bench.specs.definitions.Walk.{examined, pieces, through}
 use Rattle.report.specs.definitions.Report.{ascii, verdictName, text, writtenBytes, written}
 use Rattle.bench.proofs.Walk.{pieces-alike, none-left}
@@ -40,11 +41,11 @@ use Rattle.demands.proofs.Lines.{text-lines, verdict-said}
 
 module _ (s : List ℕ) (B : AllBytes s) where
   -- a verdict other than NOT MEASURED is given to a measured capture, by its flagged words
-  told : (v : Verdict) → verdictOf (examined s .run) ≡ v → verdictNumber v ≢ 0 → (m : Measured s) × (cond (leb (flaggedWords m) (m .allowed)) Pass Fail ≡ v)
+  told : (v : Verdict) → verdictOf (examined s) ≡ v → verdictNumber v ≢ 0 → (m : Measured s) × (cond (leb (flaggedWords m) (m .allowed)) Pass Fail ≡ v)
   unfolding verdictOf
   told v e n =
-      let J = judged (examined s .run .asked) (examined s .run .allowed) (examined s .run .account) (not (goesOn (examined s .run .phase))) v e n in
-      let m = measured-back s B (on (goesOn (examined s .run .phase)) (J .0)) (J .1) in
+      let J = judged (examined s .asked) (examined s .allowed) (examined s .account) (not (goesOn (examined s .phase))) v e n in
+      let m = measured-back s B (on (goesOn (examined s .phase)) (J .0)) (J .1) in
       (m, ap (λ (r : Run). cond (leb (r .account .words .flagged) (r .allowed)) Pass Fail) (sym (measured-run s m)) ∙ J .2)
     where
       on : (g : Bool) → not g ≡ false → g ≡ true
@@ -56,7 +57,7 @@ module _ (s : List ℕ) (m : Measured s) where
   numbers : MeasuredNumbers (m .asked) (measuredRun m .account)
   numbers = record { some = m .some; all = refl; none-missing = refl; right = all-words (m .frames) (m .asked) }
 
-  given : verdictOf (examined s .run) ≡ cond (leb (flaggedWords m) (m .allowed)) Pass Fail
+  given : verdictOf (examined s) ≡ cond (leb (flaggedWords m) (m .allowed)) Pass Fail
   unfolding verdictOf verdict goesOn
   given =
       ap verdictOf (measured-run s m)
@@ -64,14 +65,14 @@ module _ (s : List ℕ) (m : Measured s) where
       (sym (measured-by (m .asked) (measuredRun m .account) numbers))
 
 -- so each verdict is given exactly where it is due
-pub passes : (s : List ℕ) → AllBytes s → (verdictOf (examined s .run) ≡ Pass) ↔ ((m : Measured s) × (flaggedWords m ≤ m .allowed))
+pub passes : (s : List ℕ) → AllBytes s → (verdictOf (examined s) ≡ Pass) ↔ ((m : Measured s) × (flaggedWords m ≤ m .allowed))
 unfolding verdictNumber
 passes s B = (
   λ e. let T = told s B Pass e (λ (z : _≡_ {A = ℕ} 1 0). omega arith) in (T .0, passed (flaggedWords (T .0)) (T .0 .allowed) (T .1)),
   λ (m, h). given s m ∙ ap (λ (b : Bool). cond b Pass Fail) (le-leb (flaggedWords m) (m .allowed) h),
 )
 
-pub fails : (s : List ℕ) → AllBytes s → (verdictOf (examined s .run) ≡ Fail) ↔ ((m : Measured s) × (m .allowed < flaggedWords m))
+pub fails : (s : List ℕ) → AllBytes s → (verdictOf (examined s) ≡ Fail) ↔ ((m : Measured s) × (m .allowed < flaggedWords m))
 unfolding verdictNumber
 fails s B = (
   λ e. let T = told s B Fail e (λ (z : _≡_ {A = ℕ} 2 0). omega arith) in (T .0, failed (flaggedWords (T .0)) (T .0 .allowed) (T .1)),
@@ -84,40 +85,40 @@ unfolding verdictNumber
 one-or-other true e = let z : _≡_ {A = ℕ} 1 0 = ap verdictNumber e in absurd (omega arith)
 one-or-other false e = let z : _≡_ {A = ℕ} 2 0 = ap verdictNumber e in absurd (omega arith)
 
-pub unmeasured : (s : List ℕ) → AllBytes s → (verdictOf (examined s .run) ≡ NotMeasured) ↔ (Measured s → ⊥)
+pub unmeasured : (s : List ℕ) → AllBytes s → (verdictOf (examined s) ≡ NotMeasured) ↔ (Measured s → ⊥)
 unfolding verdictNumber
-unmeasured s B = (λ e m. one-or-other (leb (flaggedWords m) (m .allowed)) (sym (given s m) ∙ e), λ n. go n (verdictOf (examined s .run)) refl)
+unmeasured s B = (λ e m. one-or-other (leb (flaggedWords m) (m .allowed)) (sym (given s m) ∙ e), λ n. go n (verdictOf (examined s)) refl)
   where
-    go : (Measured s → ⊥) → (v : Verdict) → verdictOf (examined s .run) ≡ v → verdictOf (examined s .run) ≡ NotMeasured
+    go : (Measured s → ⊥) → (v : Verdict) → verdictOf (examined s) ≡ v → verdictOf (examined s) ≡ NotMeasured
     go n NotMeasured e = e
     go n Pass e = absurd (n (told s B Pass e (λ (z : _≡_ {A = ℕ} 1 0). omega arith) .0))
     go n Fail e = absurd (n (told s B Fail e (λ (z : _≡_ {A = ℕ} 2 0). omega arith) .0))
 
 -- ---- record by record
 
--- states that follow one another by steps come to what stepping through comes to
-stepwise : (ps : List (List ℕ)) (states : ℕ → State) → ((k : ℕ) → k < length ps → states (suc k) ≡ stepped (states k) (getD ps k []))
-    → through (states 0) ps ≡ states (length ps)
+-- runs that follow one another by steps come to what stepping through comes to
+stepwise : (ps : List (List ℕ)) (runs : ℕ → Run) → ((k : ℕ) → k < length ps → runs (suc k) ≡ stepped (runs k) (getD ps k []))
+    → through (runs 0) ps ≡ runs (length ps)
 unfolding through
-stepwise [] states call = refl
-stepwise (p ∷ ps) states call =
-    ap (λ (st : State). through st ps) (sym (call 0 (omega arith))) ∙ stepwise ps (λ k. states (suc k)) (λ k l. call (suc k) (omega arith))
+stepwise [] runs call = refl
+stepwise (p ∷ ps) runs call =
+    ap (λ (run : Run). through run ps) (sym (call 0 (omega arith))) ∙ stepwise ps (λ k. runs (suc k)) (λ k l. call (suc k) (omega arith))
 
--- the states on the way
-pub on-the-way : (ps : List (List ℕ)) (st : State) (k : ℕ) → k < length ps → through st (take (suc k) ps) ≡ stepped (through st (take k ps)) (getD ps k [])
+-- the runs on the way
+pub on-the-way : (ps : List (List ℕ)) (run : Run) (k : ℕ) → k < length ps → through run (take (suc k) ps) ≡ stepped (through run (take k ps)) (getD ps k [])
 unfolding through
-on-the-way [] st k h = absurd (omega arith)
-on-the-way (p ∷ ps) st zero h = refl
-on-the-way (p ∷ ps) st (suc k) h = on-the-way ps (stepped st p) k (omega arith)
+on-the-way [] run k h = absurd (omega arith)
+on-the-way (p ∷ ps) run zero h = refl
+on-the-way (p ∷ ps) run (suc k) h = on-the-way ps (stepped run p) k (omega arith)
 
-steps-exist : (s : List ℕ) → Stepwise s (examined s .run)
+steps-exist : (s : List ℕ) → Stepwise s (examined s)
 unfolding through
 steps-exist s =
     record {
-      states = λ k. through fresh (take k (pieces s));
+      runs = λ k. through begun (take k (pieces s));
       first = refl;
-      call = λ k h. on-the-way (pieces s) fresh k h;
-      last = ap (λ (st : State). st .run) (sym (ap (through fresh) (take-length (pieces s)) ∙ pieces-alike s));
+      call = λ k h. on-the-way (pieces s) begun k h;
+      last = sym (ap (through begun) (take-length (pieces s)) ∙ pieces-alike s);
     }
 
 -- ---- the report
@@ -137,14 +138,13 @@ module _ (r : Run) (line : String) (v : Verdict) (says : ascii line ≡ ascii "v
         is = ap (λ (ls : List (List ℕ)). getD ls 7 []) (text-lines r) ∙ ap (λ (w : Verdict). ascii "verdict " ++ verdictName w) e ∙ sym says;
       }
 
-run-is : (s : List ℕ) (r : Run) → (r ≡ examined s .run) ⊎ Stepwise s r → r ≡ examined s .run
+run-is : (s : List ℕ) (r : Run) → (r ≡ examined s) ⊎ Stepwise s r → r ≡ examined s
 run-is s r (inl e) = e
 run-is s r (inr S) =
-    S .last ∙ ap (λ (st : State). st .run)
-    (sym (stepwise (pieces s) (S .states) (S .call)) ∙ ap (λ (st : State). through st (pieces s)) (S .first) ∙ pieces-alike s)
+    S .last ∙ sym (stepwise (pieces s) (S .runs) (S .call)) ∙ ap (λ (run : Run). through run (pieces s)) (S .first) ∙ pieces-alike s
 
 module _ (s report : List ℕ) (R : Examination s report) where
-  report-is : report ≡ text (examined s .run)
+  report-is : report ≡ text (examined s)
   unfolding writtenBytes written
   report-is =
       R .printed
@@ -158,14 +158,14 @@ module _ (s report : List ℕ) (R : Examination s report) where
       whole false e = absurd (false≢true e)
 
   module _ (line : String) (v : Verdict) (says : ascii line ≡ ascii "verdict " ++ verdictName v) where
-    said : Line line report → verdictOf (examined s .run) ≡ v
-    said L = line-said (examined s .run) line v says (subst (Line line) report-is L)
+    said : Line line report → verdictOf (examined s) ≡ v
+    said L = line-said (examined s) line v says (subst (Line line) report-is L)
 
-    stands : verdictOf (examined s .run) ≡ v → Line line report
-    stands e = subst (Line line) (sym report-is) (line-stands (examined s .run) line v says e)
+    stands : verdictOf (examined s) ≡ v → Line line report
+    stands e = subst (Line line) (sym report-is) (line-stands (examined s) line v says e)
 
     -- what a verdict means, it means in the report
-    carried : {X : Type 0} → (verdictOf (examined s .run) ≡ v) ↔ X → Line line report ↔ X
+    carried : {X : Type 0} → (verdictOf (examined s) ≡ v) ↔ X → Line line report ↔ X
     carried means = (λ L. means .0 (said L), λ x. stands (means .1 x))
 
 pub pass-exactly : PassExactly
@@ -181,25 +181,24 @@ unfolding verdictName tabulate
 not-measured-exactly s report B R = carried s report R "verdict NOT MEASURED" NotMeasured refl (unmeasured s B)
 
 -- a run that was stopped
-pub stopped-unmeasured : (r : Run) → verdictOf (stopped r) ≡ NotMeasured
+pub stopped-unmeasured : (r : Run) → r .phase ≡ Stopped → verdictOf r ≡ NotMeasured
 unfolding verdictOf goesOn verdict
-stopped-unmeasured r = refl
+stopped-unmeasured r e = rw e refl
 
 pub stopped-says : (r : Run) → Line "verdict NOT MEASURED" (text (stopped r))
 unfolding verdictName tabulate
-stopped-says r = line-stands (stopped r) "verdict NOT MEASURED" NotMeasured refl (stopped-unmeasured r)
+stopped-says r = line-stands (stopped r) "verdict NOT MEASURED" NotMeasured refl (stopped-unmeasured (stopped r) refl)
 
--- the report in a buffer that holds it
-examination : (s buffer : List ℕ) → length (text (examined s .run)) ≤ length buffer
-    → Examination s (take (writtenBytes (examined s .run) buffer) (written (examined s .run) buffer))
-examination s buffer h =
+-- the report of the capture's run, in a buffer that holds it
+pub examination : (s : List ℕ) (r : Run) → r ≡ examined s → (buffer : List ℕ) → length (text r) ≤ length buffer
+    → Examination s (take (writtenBytes r buffer) (written r buffer))
+examination s r e buffer h =
     record {
-      run = examined s .run;
-      walk = inl refl;
+      run = r;
+      walk = inl e;
       buffer = buffer;
-      out = written (examined s .run) buffer;
-      bytes = writtenBytes
-          (examined s .run) buffer;
+      out = written r buffer;
+      bytes = writtenBytes r buffer;
       holds = h;
       answered = refl;
       left = refl;
@@ -209,14 +208,14 @@ examination s buffer h =
 pub program-says : ProgramSays
 unfolding verdictName tabulate
 program-says s =
-    let r = examined s .run in
-    let e = examination s (text r) (omega arith) in
+    let r = examined s in
+    let e = examination s r refl (text r) (omega arith) in
     (subst (Examination s) (report-is s _ e) e, stopped-says r)
 
 pub examinations-exist : ExaminationsExist
 unfolding examination
 examinations-exist s =
-    (steps-exist s, λ buffer h. (take (writtenBytes (examined s .run) buffer) (written (examined s .run) buffer), examination s buffer h, refl))
+    (steps-exist s, λ buffer h. (take (writtenBytes (examined s) buffer) (written (examined s) buffer), examination s (examined s) refl buffer h, refl))
 
 pub all-counted : AllCounted
 all-counted s report B E L =
@@ -458,4 +457,4 @@ arrived-always s start asked allowed next B e =
 
 pub always-counted : AlwaysCounted
 unfolding examined
-always-counted s = walked-counted (length s) s 0 fresh refl
+always-counted s = walked-counted (length s) s 0 begun refl

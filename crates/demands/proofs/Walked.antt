@@ -7,25 +7,26 @@ use mathlib.Core.List.{List, [], _++_, append-assoc, append-nil}
 use Prim.Native.Nat.{ℕ, zero, suc, _+_, _*_, _-_, _^_, _≤_, _<_}
 use native.Mathlib.Decide.{decLt}
 use native.Mathlib.Omega.{arith}
-use lib.ListN.{length, drop, replicate, length-append, length-drop}
+use lib.ListN.{length, drop, length-drop}
 use lib.Seq.{drop-drop, getD-drop}
 use Rattle.bits.specs.definitions.Bits.{AllBytes}
 use Rattle.pilots.specs.definitions.Pilots.{locks}
-use Rattle.account.specs.definitions.Account.{frameLimit, noWords, measured}
+use Rattle.account.specs.definitions.Account.{opened, frameLimit, noWords, measured}
 use Rattle.account.proofs.VerdictMeaning.{measured-means}
 use Rattle.capture.specs.declared.Read.{Read}
 use Rattle.capture.specs.declared.Read.the-variants.{End, Refused, Order, Frame}
 use Rattle.capture.specs.definitions.Capture.{layout, readAt, nextOf, shifted, symbolsAt, orderRecord, frameRecord, frameNumber, frameRecords}
-use Rattle.capture.proofs.Cases.{at-end}
 use Rattle.capture.proofs.Found.{frame-found}
 use Rattle.capture.proofs.Local.{reads-from-here, symbols-here}
 use Rattle.capture.proofs.Records.{records}
+use Rattle.bench.specs.declared.Run.{Run}
 use Rattle.bench.specs.declared.Phase.the-variants.{Going, Stopped}
-use Rattle.bench.specs.definitions.Run.{State, fresh, framed, orderCame, frameCame, cameAs, goesOn}
-use Rattle.bench.specs.definitions.Walk.{walked, examined}
+use Rattle.bench.specs.definitions.Run.{begun, framed, orderCame, frameCame, cameAs, goesOn}
+use Rattle.bench.specs.definitions.Walk.{walked, examined, cut, pieces, through}
 use Rattle.bench.proofs.Walk.{walked-one, walked-end, end, none-left, refused-stops}
 use Rattle.demands.specs.definitions.Verdict.{wordsIn, Measured, measuredRun}
-use Rattle.demands.proofs.Measured.{storeAfter, allAccepted, after, framed-next, Lost, walked-lost, lost-never, next-or-lost}
+use Rattle.demands.proofs.Arriving.{runAfter, onward-frames}
+use Rattle.demands.proofs.Measured.{allAccepted, after, framed-next, Lost, walked-lost, lost-never, next-or-lost}
 
 -- where frame k of a measured capture stands
 abbrev pub framePlace : ℕ → ℕ
@@ -33,71 +34,33 @@ framePlace k = layout .orderBytes + k * layout .frameBytes
 
 -- the run after an order
 module _ (start asked allowed : ℕ) (frames : ℕ → List ℕ) (h : start < 2 ^ 32) where
-  pub ordered-first : (s : List ℕ) (next : ℕ) → cameAs (Order start asked allowed next) fresh s ≡ after start asked allowed frames 0
-  unfolding cameAs orderCame storeAfter wordsIn
-  ordered-first s next =
+  ordered : record { phase = Going; asked = asked; allowed = allowed; account = opened start } ≡ after start asked allowed frames 0
+  unfolding wordsIn
+  ordered =
       let e : start ≡ frameNumber start 0 = omega arith in
-      λ i. record {
-        run = record {
-          phase = Going;
-          asked = asked;
-          allowed = allowed;
-          account = record { expected = e i; accepted = 0; missing = 0; words = noWords };
-        };
-        store = replicate 2880 0;
-      }
+      λ i. record { phase = Going; asked = asked; allowed = allowed; account = record { expected = e i; accepted = 0; missing = 0; words = noWords } }
 
--- ---- over a measured capture
+  ordered-first : (s : List ℕ) (next : ℕ) → cameAs (Order start asked allowed next) begun s ≡ after start asked allowed frames 0
+  unfolding cameAs orderCame
+  ordered-first s next = ordered
 
-module _ (start asked allowed : ℕ) (frames : ℕ → List ℕ) (hs : start < 2 ^ 32) (ha : asked < 2 ^ 32) (hw : allowed < 2 ^ 32) (limit : asked ≤ frameLimit)
-    (whole : (k : ℕ) → k < asked → length (frames k) ≡ layout .symbols) (locked : (k : ℕ) → k < asked → locks (frames k) 0 ≡ true) where
-  abbrev bytes : List ℕ
-  bytes = orderRecord start asked allowed ++ (frameRecords (frameNumber start) frames asked ++ [])
-
-  bytes-length : length bytes ≡ framePlace asked
-  bytes-length =
-      length-append (orderRecord start asked allowed) (frameRecords (frameNumber start) frames asked ++ [])
-      ∙ (let o = records .recordLengths .0 start asked allowed in
-      let f = records .recordLengths .2 asked (frameNumber start) frames whole in
-      let n : length (frameRecords (frameNumber start) frames asked ++ [])
-      ≡ length (frameRecords (frameNumber start) frames asked) + 0 = length-append (frameRecords (frameNumber start) frames asked) [] in omega arith)
-
-  walks-on : (j n k : ℕ) → k + j ≡ asked → j ≤ n → walked n bytes (framePlace k) (after start asked allowed frames k) ≡ after start asked allowed frames asked
-  unfolding cameAs frameCame
-  walks-on zero n k e h =
-      let q : k ≡ asked = omega arith in
-      walked-end n bytes (framePlace k) (after start asked allowed frames k) (sym (at-end bytes (framePlace k) (let l = bytes-length in omega arith)))
-      ∙ ap (after start asked allowed frames) q
-  walks-on (suc j) zero k e h = absurd (omega arith)
-  walks-on (suc j) (suc n) k e h =
-      let R = records .framesRead asked (frameNumber start) frames (orderRecord start asked allowed) [] (λ i l. (omega arith, whole i l)) k (framePlace k)
-      (omega arith) (let o = records .recordLengths .0 start asked allowed in omega arith) in
-      let next : framePlace k + layout .frameBytes ≡ framePlace (suc k) = omega arith in
-      walked-one n bytes (framePlace k) (after start asked allowed frames k) _ (R .0)
-      ∙ (λ i. walked n bytes (next i)
-      ((ap (framed (after start asked allowed frames k) (frameNumber start k)) (R .1)
-      ∙ framed-next start asked allowed frames k (omega arith) (locked k (omega arith))) i))
-      ∙ walks-on j n (suc k) (omega arith) (omega arith)
-
-  measured-state : examined bytes ≡ after start asked allowed frames asked
-  unfolding examined
-  measured-state =
-      let l : length bytes ≡ suc (layout .orderBytes - 1 + asked * layout .frameBytes) = bytes-length ∙ (omega arith) in
-      ap (λ (m : ℕ). walked m bytes 0 fresh) l
-      ∙ walked-one (layout .orderBytes - 1 + asked * layout .frameBytes) bytes 0 fresh _
-      (records .orderReads start asked allowed (frameRecords (frameNumber start) frames asked ++ []) hs ha hw)
-      ∙ ap (walked (layout .orderBytes - 1 + asked * layout .frameBytes) bytes (layout .orderBytes))
-      (ordered-first start asked allowed frames hs bytes (layout .orderBytes))
-      ∙ walks-on asked (layout .orderBytes - 1 + asked * layout .frameBytes) 0 (omega arith) (omega arith)
+  -- and after k frames in their turn
+  in-turn : (k : ℕ) → k ≤ frameLimit → ((j : ℕ) → j < k → locks (frames j) 0 ≡ true)
+      → runAfter start asked allowed (frameNumber start) frames k ≡ after start asked allowed frames k
+  unfolding runAfter frameCame
+  in-turn zero l locked = ordered
+  in-turn (suc k) l locked =
+      ap (λ (r : Run). frameCame (r .phase) r (frameNumber start k) (frames k)) (in-turn k (omega arith) (λ j m. locked j (omega arith)))
+      ∙ framed-next start asked allowed frames k (omega arith) (locked k (omega arith))
 
 -- any capture that was measured
-pub measured-run : (s : List ℕ) (m : Measured s) → examined s .run ≡ measuredRun m
+pub measured-run : (s : List ℕ) (m : Measured s) → examined s ≡ measuredRun m
+unfolding through pieces cut
 measured-run s m =
-    ap (λ (x : List ℕ). examined x .run)
-    (m .capture ∙ ap (λ (l : List ℕ). orderRecord (m .start) (m .asked) (m .allowed) ++ l)
-    (sym (append-nil (frameRecords (frameNumber (m .start)) (m .frames) (m .asked)))))
-    ∙ ap (λ (st : State). st .run)
-    (measured-state (m .start) (m .asked) (m .allowed) (m .frames) (m .numbers .0) (m .numbers .1) (m .numbers .2) (m .within) (m .whole) (m .locked))
+    ap examined (m .capture ∙ sym (append-nil (orderRecord (m .start) (m .asked) (m .allowed) ++ frameRecords (frameNumber (m .start)) (m .frames) (m .asked))))
+    ∙ sym (onward-frames (m .start) (m .asked) (m .allowed) (frameNumber (m .start)) (m .frames) (m .numbers) (m .asked) (λ k h.
+    (omega arith, m .whole k h)) [])
+    ∙ in-turn (m .start) (m .asked) (m .allowed) (m .frames) (m .numbers .0) (m .asked) (m .within) (m .locked)
 
 -- ---- and back
 
@@ -151,14 +114,14 @@ up-to {P} k h p j l = at (decLt j k)
     at (no m) = subst P (omega arith) p
 
 -- what a walk that goes on to the end, and is measured, comes to
-abbrev Comes : List ℕ → State → Type 0
-Comes s st = goesOn (st .run .phase) ≡ true → measured (st .run .asked) (st .run .account) ≡ true → Measured s
+abbrev Comes : List ℕ → Run → Type 0
+Comes s run = goesOn (run .phase) ≡ true → measured (run .asked) (run .account) ≡ true → Measured s
 
-lost-comes : (s : List ℕ) (st : State) → Lost st → Comes s st
-lost-comes s st l g m = absurd (lost-never st (st .run .asked) l g m)
+lost-comes : (s : List ℕ) (run : Run) → Lost run → Comes s run
+lost-comes s run l g m = absurd (lost-never run (run .asked) l g m)
 
-stopped-comes : (s : List ℕ) (n i : ℕ) (st : State) → st .run .phase ≡ Stopped → Comes s (walked n s i st)
-stopped-comes s n i st h = lost-comes s (walked n s i st) (walked-lost n s i st (inl h))
+stopped-comes : (s : List ℕ) (n i : ℕ) (run : Run) → run .phase ≡ Stopped → Comes s (walked n s i run)
+stopped-comes s n i run h = lost-comes s (walked n s i run) (walked-lost n s i run (inl h))
 
 module _ (s : List ℕ) (B : AllBytes s) (start asked allowed : ℕ) (hs : start < 2 ^ 32) (ha : asked < 2 ^ 32) (hw : allowed < 2 ^ 32) where
   -- at the end
@@ -207,62 +170,62 @@ module _ (s : List ℕ) (B : AllBytes s) (start asked allowed : ℕ) (hs : start
   back zero k e F = λ g m. at-last k F (omega arith) m
   back (suc n) k e F = go (readAt (drop (framePlace k) s) 0) refl (back n (suc k) (omega arith))
     where
-      st : State
-      st = after start asked allowed (framesIn s) k
+      run : Run
+      run = after start asked allowed (framesIn s) k
 
       there : (r : Read) → readAt (drop (framePlace k) s) 0 ≡ r → readAt s (framePlace k) ≡ shifted (framePlace k) r
       there r q = reads-from-here s (framePlace k) ∙ ap (shifted (framePlace k)) q
 
       here : (r : Read) → readAt (drop (framePlace k) s) 0 ≡ r
-          → walked (suc n) s (framePlace k) st ≡ walked n s (nextOf (shifted (framePlace k) r) (framePlace k)) (cameAs (shifted (framePlace k) r) st s)
-      here r q = walked-one n s (framePlace k) st (shifted (framePlace k) r) (there r q)
+          → walked (suc n) s (framePlace k) run ≡ walked n s (nextOf (shifted (framePlace k) r) (framePlace k)) (cameAs (shifted (framePlace k) r) run s)
+      here r q = walked-one n s (framePlace k) run (shifted (framePlace k) r) (there r q)
 
       frame : (number from next : ℕ) → readAt (drop (framePlace k) s) 0 ≡ Frame number from next
-          → Lost (framed st number (framesIn s k)) ⊎ ((number ≡ frameNumber start k) × (locks (framesIn s k) 0 ≡ true) × (k < frameLimit))
+          → Lost (framed run number (framesIn s k)) ⊎ ((number ≡ frameNumber start k) × (locks (framesIn s k) 0 ≡ true) × (k < frameLimit))
           → (SoFar s start asked allowed (suc k) → Comes s (walked n s (framePlace (suc k)) (after start asked allowed (framesIn s) (suc k))))
-          → Comes s (walked n s (framePlace k + next) (framed st number (symbolsAt s (framePlace k + from))))
+          → Comes s (walked n s (framePlace k + next) (framed run number (symbolsAt s (framePlace k + from))))
       frame number from next q (inl l) IH =
-          subst (λ (f : List ℕ). Comes s (walked n s (framePlace k + next) (framed st number f)))
+          subst (λ (f : List ℕ). Comes s (walked n s (framePlace k + next) (framed run number f)))
           (sym (symbols-here s (framePlace k) from ∙ symbols s B k number from next q))
-          (lost-comes s (walked n s (framePlace k + next) (framed st number (framesIn s k)))
-          (walked-lost n s (framePlace k + next) (framed st number (framesIn s k)) l))
+          (lost-comes s (walked n s (framePlace k + next) (framed run number (framesIn s k)))
+          (walked-lost n s (framePlace k + next) (framed run number (framesIn s k)) l))
       frame number from next q (inr (t, l, h)) IH =
           subst (Comes s)
           (sym (λ i. walked n s (moves s B k number from next q i)
-          ((ap (framed st number) (symbols-here s (framePlace k) from ∙ symbols s B k number from next q) ∙ ap (λ (x : ℕ). framed st x (framesIn s k)) t
+          ((ap (framed run number) (symbols-here s (framePlace k) from ∙ symbols s B k number from next q) ∙ ap (λ (x : ℕ). framed run x (framesIn s k)) t
           ∙ framed-next start asked allowed (framesIn s) k h l) i)))
           (IH (one-more k number from next F q t l h))
 
       go : (r : Read) → readAt (drop (framePlace k) s) 0 ≡ r
           → (SoFar s start asked allowed (suc k) → Comes s (walked n s (framePlace (suc k)) (after start asked allowed (framesIn s) (suc k))))
-          → Comes s (walked (suc n) s (framePlace k) st)
-      go End q IH = subst (Comes s) (sym (walked-end (suc n) s (framePlace k) st (there End q))) (λ g m. at-last k F (end s (framePlace k) (there End q)) m)
+          → Comes s (walked (suc n) s (framePlace k) run)
+      go End q IH = subst (Comes s) (sym (walked-end (suc n) s (framePlace k) run (there End q))) (λ g m. at-last k F (end s (framePlace k) (there End q)) m)
       go (Refused refusal) q IH =
-          subst (Comes s) (sym (here (Refused refusal) q)) (stopped-comes s n (framePlace k) (cameAs (Refused refusal) st s) (refused-stops st s refusal))
+          subst (Comes s) (sym (here (Refused refusal) q)) (stopped-comes s n (framePlace k) (cameAs (Refused refusal) run s) (refused-stops run s refusal))
       go (Order start′ asked′ allowed′ next) q IH =
           subst (Comes s) (sym (here (Order start′ asked′ allowed′ next) q))
-          (stopped-comes s n (framePlace k + next) (cameAs (Order start′ asked′ allowed′ (framePlace k + next)) st s) refl)
+          (stopped-comes s n (framePlace k + next) (cameAs (Order start′ asked′ allowed′ (framePlace k + next)) run s) refl)
       go (Frame number from next) q IH =
           subst (Comes s) (sym (here (Frame number from next) q))
           (frame number from next q (next-or-lost start asked allowed (framesIn s) k number (framesIn s k) (found s B k number from next q .0)) IH)
 
 -- from the first record on: an order, or nothing is measured
-from-order : (s : List ℕ) → AllBytes s → (n : ℕ) → length s ≤ n → Comes s (walked n s 0 fresh)
+from-order : (s : List ℕ) → AllBytes s → (n : ℕ) → length s ≤ n → Comes s (walked n s 0 begun)
 unfolding walked goesOn cameAs frameCame frameRecords
 from-order s B zero h = λ g m. absurd (false≢true g)
 from-order s B (suc n) h = go (readAt s 0) refl
   where
-    go : (r : Read) → readAt s 0 ≡ r → Comes s (walked (suc n) s 0 fresh)
-    go End q = subst (Comes s) (sym (walked-end (suc n) s 0 fresh q)) (λ g m. absurd (false≢true g))
+    go : (r : Read) → readAt s 0 ≡ r → Comes s (walked (suc n) s 0 begun)
+    go End q = subst (Comes s) (sym (walked-end (suc n) s 0 begun q)) (λ g m. absurd (false≢true g))
     go (Refused refusal) q =
-        subst (Comes s) (sym (walked-one n s 0 fresh (Refused refusal) q))
-        (stopped-comes s n 0 (cameAs (Refused refusal) fresh s) (refused-stops fresh s refusal))
+        subst (Comes s) (sym (walked-one n s 0 begun (Refused refusal) q))
+        (stopped-comes s n 0 (cameAs (Refused refusal) begun s) (refused-stops begun s refusal))
     go (Frame number from next) q =
-        subst (Comes s) (sym (walked-one n s 0 fresh (Frame number from next) q)) (stopped-comes s n next (cameAs (Frame number from next) fresh s) refl)
+        subst (Comes s) (sym (walked-one n s 0 begun (Frame number from next) q)) (stopped-comes s n next (cameAs (Frame number from next) begun s) refl)
     go (Order start asked allowed next) q =
         let O = records .orderFound s start asked allowed next B q in
         let at : next ≡ framePlace 0 = O .3 in
-        subst (Comes s) (sym (walked-one n s 0 fresh (Order start asked allowed next) q
+        subst (Comes s) (sym (walked-one n s 0 begun (Order start asked allowed next) q
         ∙ (λ i. walked n s (at i) (ordered-first start asked allowed (framesIn s) (O .0) s next i))))
         (back s B start asked allowed (O .0) (O .1) (O .2) n 0 (omega arith)
         (record {
@@ -272,7 +235,7 @@ from-order s B (suc n) h = go (readAt s 0) refl
           capture = O .4 ∙ ap (λ (i : ℕ). orderRecord start asked allowed ++ drop i s) at;
         }))
 
-pub measured-back : (s : List ℕ) → AllBytes s → goesOn (examined s .run .phase) ≡ true → measured (examined s .run .asked) (examined s .run .account) ≡ true
+pub measured-back : (s : List ℕ) → AllBytes s → goesOn (examined s .phase) ≡ true → measured (examined s .asked) (examined s .account) ≡ true
     → Measured s
 unfolding examined
 measured-back s B = from-order s B (length s) (omega arith)

@@ -1,4 +1,6 @@
+pub mod Symbols
 pub mod Return
+pub mod Stores
 pub mod Trial
 pub mod Tallies
 pub mod ReedSolomon

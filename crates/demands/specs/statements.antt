@@ -1,4 +1,7 @@
+pub mod Symbols
 pub mod Return
+pub mod Stores
+pub mod Flags
 pub mod Trial
 pub mod OneForAll
 pub mod Tallies
@@ -6,3 +9,4 @@ pub mod ReedSolomon
 pub mod Verdict
 pub mod Host
 pub mod Demands
+pub mod Calls

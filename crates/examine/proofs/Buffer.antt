@@ -40,20 +40,36 @@ nothing-yet = refl
 pub piece-begun : (c : List ℕ) (first end : ℕ) → first ≡ wanted [] → end ≤ first → end ≤ wanted (take end c)
 piece-begun c first end f h = let z = nothing-yet in let w = wanted-bounds (take end c) .0 in omega arith
 
--- a piece has no more than what its length asks for
-pub piece-ends : (c d : List ℕ) (first all end : ℕ) → first ≡ wanted [] → all ≡ wanted (take first c) → take first d ≡ take first c → end ≤ length d → end ≤ all
-    → end ≤ wanted (take end d)
-piece-ends c d first all end f a e l h = at (decLt end first)
-  where
-    is : first ≡ layout .lengthBytes
-    is = f ∙ nothing-yet
+-- and where nothing is there more is wanted
+pub none-yet : (c : List ℕ) (end : ℕ) → end ≡ 0 → end < wanted (take end c)
+none-yet c end e = let w = wanted-bounds (take end c) .0 in omega arith
 
-    at : Dec (end < first) → end ≤ wanted (take end d)
-    at (yes m) = piece-begun d first end f (omega arith)
-    at (no m) =
-        let w : wanted (take end d) ≡ wanted (take (layout .lengthBytes) c) = head-decides c d end (let z = is in omega arith) l
-        (subst (λ (n : ℕ). take n d ≡ take n c) is e) in
-        let q : all ≡ wanted (take (layout .lengthBytes) c) = a ∙ ap (λ (n : ℕ). wanted (take n c)) is in omega arith
+-- a piece has no more than what its length asks for, and where it has less it ends before that
+module _ (c d : List ℕ) (first all end : ℕ) (f : first ≡ wanted []) (a : all ≡ wanted (take first c)) (e : take first d ≡ take first c)
+    (l : end ≤ length d) where
+  -- once its length is there
+  wants : first ≤ end → wanted (take end d) ≡ all
+  wants h =
+      let is : first ≡ layout .lengthBytes = f ∙ nothing-yet in
+      head-decides c d end (omega arith) l (subst (λ (n : ℕ). take n d ≡ take n c) is e) ∙ sym (a ∙ ap (λ (n : ℕ). wanted (take n c)) is)
+
+  pub piece-ends : end ≤ all → end ≤ wanted (take end d)
+  piece-ends h = at (decLt end first)
+    where
+      at : Dec (end < first) → end ≤ wanted (take end d)
+      at (yes m) = piece-begun d first end f (omega arith)
+      at (no m) = let w = wants (omega arith) in omega arith
+
+  pub piece-last : first < all → end < wanted (take end d) → end < all
+  piece-last m h = at (decLt end first)
+    where
+      at : Dec (end < first) → end < all
+      at (yes n) = omega arith
+      at (no n) = let w = wants (omega arith) in omega arith
+
+-- a length that asks for no more is the whole piece
+pub piece-whole : (b : List ℕ) (first all end : ℕ) → all ≡ wanted (take first b) → end ≡ first → all ≤ first → end < wanted (take end b) → ⊥
+piece-whole b first all end a e l h = let w : wanted (take end b) ≡ all = ap (λ (n : ℕ). wanted (take n b)) e ∙ sym a in omega arith
 
 -- the first n of a buffer, as they are lent
 pub lent-wanted : (b : List ℕ) (n r : ℕ) → r ≡ wanted (take (n - 0) (drop 0 b)) → (r ≡ wanted (take n b)) × (layout .lengthBytes ≤ r) × (r ≤ layout .frameBytes)

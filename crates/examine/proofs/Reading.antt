@@ -7,43 +7,60 @@ use mathlib.Core.List.{List, [], _++_}
 use Prim.Native.Nat.{ℕ, _+_, _-_, _≤_, _<_}
 use native.Mathlib.Decide.{decLt}
 use native.Mathlib.Omega.{arith}
-use lib.ListN.{length, getD, take, drop, replicate, List·getD-append, List·getD-eq-default}
+use lib.IntN.{ℤ, pos, negsuc}
+use lib.ListN.{length, getD, take, drop, List·getD-append, List·getD-eq-default}
 use lib.Seq.{length-take-le, getD-append-add}
 use Rattle.bits.specs.definitions.Bits.{AllBytes}
+use Rattle.capture.specs.declared.Read.the-variants.{End}
 use Rattle.capture.specs.definitions.Capture.{wanted}
+use Rattle.capture.proofs.One.{isRefused, one-whole}
 use Rattle.bench.specs.declared.Run.{Run}
 use Rattle.bench.specs.declared.Phase.{Phase}
 use Rattle.bench.specs.declared.Phase.the-variants.{Stopped}
-use Rattle.bench.specs.definitions.Run.{State, begun, stopped, isStopped, stepped}
+use Rattle.bench.specs.definitions.Run.{begun, stopped, isStopped, stepped}
 use Rattle.bench.specs.definitions.Walk.{examined, followed}
 use Rattle.examine.specs.declared.Came.{Came}
-use Rattle.bench.proofs.Walk.{end, Onward, onward-starts, onward-ends, onward-last, onward-next, short-stops}
+use Rattle.examine.specs.definitions.Answer.{negative, NoMore}
+use Rattle.bench.proofs.Walk.{Onward, onward-starts, onward-ends, onward-last, onward-next, short-stops}
 use Rattle.bench.proofs.Remaining.{remainingOf, step-less}
 
--- the bytes read so far, and that the state is what they come to; while the run goes on, whatever may follow
-pub record Reading (st : State) (going : Bool) : Type 0 where
+-- the bytes read so far, and that the run is what they come to; while the run goes on, whatever may follow
+pub record Reading (run : Run) (going : Bool) : Type 0 where
   pub read : List ℕ
   pub bytes : AllBytes read
-  pub came : st ≡ examined read
-  pub onward : going ≡ true → Onward read st
-  pub stops : going ≡ not (isStopped (st .run .phase))
+  pub came : run ≡ examined read
+  pub onward : going ≡ true → Onward read run
+  pub stops : going ≡ not (isStopped (run .phase))
 
--- what may be answered
-module _ (st : State) (going : Bool) (R : Reading st going) (r : Came) where
-  pub answers : r ≡ record { run = st .run; failed = false } → (s : List ℕ) × AllBytes s × (r .run ≡ followed s (r .failed))
-  answers e = rw e (R .read, R .bytes, ap (λ (x : State). x .run) (R .came))
+-- what may be answered, and when
+abbrev pub Answers : Came → Type 0
+Answers r =
+    ((s : List ℕ) × AllBytes s × (r .run ≡ followed s (r .failed)))
+    × (r .failed ≡ negative (r .answer)) × (isStopped (r .run .phase) ≡ false → r .answer ≡ pos 0)
 
-  pub answers-failed : r ≡ record { run = stopped (st .run); failed = true } → (s : List ℕ) × AllBytes s × (r .run ≡ followed s (r .failed))
-  answers-failed e = rw e (R .read, R .bytes, ap (λ (x : State). stopped (x .run)) (R .came))
+module _ (run : Run) (going : Bool) (R : Reading run going) (r : Came) (z : ℤ) where
+  pub answers-failed : r ≡ record { run = stopped run; failed = true; answer = z } → negative z ≡ true → Answers r
+  unfolding isStopped
+  answers-failed e f = rw e ((R .read, R .bytes, ap stopped (R .came)), sym f, λ x. absurd (false≢true (sym x)))
+
+  -- at the end of the input
+  pub answers-ended : r ≡ record { run = run; failed = false; answer = z } → negative z ≡ false → NoMore z → Answers r
+  answers-ended e f n = rw e ((R .read, R .bytes, R .came), sym f, λ x. none z f n)
+    where
+      none : (z : ℤ) → negative z ≡ false → NoMore z → z ≡ pos 0
+      none (pos k) f n = ap pos n
+      none (negsuc k) f n = absurd (false≢true (sym f))
+
+  -- where the run is stopped
+  pub answers-stopped : r ≡ record { run = run; failed = false; answer = z } → negative z ≡ false → going ≡ false → Answers r
+  answers-stopped e f g = rw e ((R .read, R .bytes, R .came), sym f, λ x. absurd (false≢true (sym g ∙ R .stops ∙ ap not x)))
 
 no-bytes : AllBytes []
 no-bytes = record { byte = λ m. let e : _≡_ {A = ℕ} (getD [] m 0) 0 = List·getD-eq-default [] 0 {n = m} (omega arith) in omega arith }
 
-pub reading-starts : (r : Run) → r ≡ begun → Reading (record { run = r; store = replicate 2880 0 }) true
+pub reading-starts : (r : Run) → r ≡ begun → Reading r true
 unfolding isStopped
-reading-starts r e =
-    let O = onward-starts r e in
-    record { read = []; bytes = no-bytes; came = onward-ends [] (record { run = r; store = replicate 2880 0 }) O; onward = λ z. O; stops = rw e refl }
+reading-starts r e = let O = onward-starts r e in record { read = []; bytes = no-bytes; came = onward-ends [] r O; onward = λ z. O; stops = rw e refl }
 
 bytes-append : (s t : List ℕ) → AllBytes s → AllBytes t → AllBytes (s ++ t)
 bytes-append s t B C = record { byte = λ m. at m (decLt m (length s)) }
@@ -64,7 +81,7 @@ off true e = absurd (false≢true e)
 off false e = refl
 
 -- one piece more
-module _ (st : State) (going : Bool) (R : Reading st going) (on : going ≡ true) (buffer : List ℕ) (n : ℕ) (some : n ≢ 0) (inside : n ≤ length buffer)
+module _ (run : Run) (going : Bool) (R : Reading run going) (on : going ≡ true) (buffer : List ℕ) (n : ℕ) (some : n ≢ 0) (inside : n ≤ length buffer)
     (cut : n ≤ wanted (take n buffer)) where
   abbrev piece : List ℕ
   piece = take (n - 0) (drop 0 buffer)
@@ -78,28 +95,29 @@ module _ (st : State) (going : Bool) (R : Reading st going) (on : going ≡ true
   piece-cut : length piece ≤ wanted piece
   piece-cut = rw (piece-length, same) cut
 
-  module _ (new : State) (B : AllBytes piece) (step : new ≡ stepped st piece) where
-    pub reading-goes : (stop : Bool) → stop ≡ isStopped (new .run .phase) → Reading new (not stop)
+  module _ (new : Run) (B : AllBytes piece) (step : new ≡ stepped run piece) where
+    pub reading-goes : (stop : Bool) → stop ≡ isStopped (new .phase) → Reading new (not stop)
     reading-goes stop e =
         record {
           read = R .read ++ piece;
           bytes = bytes-append (R .read) piece (R .bytes) B;
-          came = step ∙ onward-last (R .read) st (R .onward on) piece (let l = piece-length in omega arith) piece-cut;
+          came = step ∙ onward-last (R .read) run (R .onward on) piece (let l = piece-length in omega arith) piece-cut;
           onward =
-              λ g. subst (Onward (R .read ++ piece)) (sym step) (onward-next (R .read) st (R .onward on) piece (let l = piece-length in omega arith)
-              (all (goes (new .run .phase) (sym e ∙ off stop g))));
+              λ g. subst (Onward (R .read ++ piece)) (sym step) (onward-next (R .read) run (R .onward on) piece (let l = piece-length in omega arith)
+              (all (goes (new .phase) (sym e ∙ off stop g))));
           stops = ap not e;
         }
       where
-        all : new .run .phase ≢ Stopped → length piece ≡ wanted piece
+        all : new .phase ≢ Stopped → length piece ≡ wanted piece
         all n = full (decLt (length piece) (wanted piece))
           where
             full : Dec (length piece < wanted piece) → length piece ≡ wanted piece
-            full (yes h) = absurd (n (ap (λ (x : State). x .run .phase) step ∙ short-stops st piece (let l = piece-length in omega arith) h))
+            full (yes h) = absurd (n (ap (λ (x : Run). x .phase) step ∙ short-stops run piece (let l = piece-length in omega arith) h))
             full (no h) = let c = piece-cut in omega arith
 
-    pub reading-less : remainingOf (new .run) < remainingOf (st .run)
+    pub reading-less : remainingOf new < remainingOf run
+    unfolding isRefused
     reading-less =
-        subst (λ (x : State). remainingOf (x .run) < remainingOf (st .run)) (sym step)
-        (step-less st piece (λ z. let h = end piece 0 z in let l = piece-length in some (omega arith))
-        (goes (st .run .phase) (off (isStopped (st .run .phase)) (sym (R .stops) ∙ on))))
+        subst (λ (x : Run). remainingOf x < remainingOf run) (sym step)
+        (step-less run piece (λ z. let h = one-whole piece End refl z .1 in let l = piece-length in some (omega arith))
+        (goes (run .phase) (off (isStopped (run .phase)) (sym (R .stops) ∙ on))))

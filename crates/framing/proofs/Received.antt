@@ -74,7 +74,7 @@ module _ (ex : Places) (n : ℕ) (frames outs flagBuffers : ℕ → List ℕ) (n
   store-whole (suc f) h =
       ap length (R .call f h .store)
       ∙ either (eqb (receiveNumber (frames f) (stores f) (outs f) (flagBuffers f)) 0) (receivedStore (frames f) (stores f)) (stores f)
-      (store-length (frames f) (stores f))
+      (store-length _ (stores f))
       (store-whole f (omega arith))
     where
       either : (b : Bool) (x y : List ℕ) → length x ≡ 2880 → length y ≡ 2880 → length (cond b x y) ≡ 2880

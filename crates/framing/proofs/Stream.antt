@@ -79,16 +79,16 @@ module _ (ex : Places) (n : ℕ) (lanes room : ℕ → List ℕ) (numbers : ℕ 
   unfolding Done
   number f h = from-length f h (long f h) .0
 
-  next : (f : ℕ) → f < n → stores (suc f) ≡ interleavedStore ex (lanes f) (stores f)
+  pub sent-next : (f : ℕ) → f < n → stores (suc f) ≡ interleavedStore ex (lanes f) (stores f)
   unfolding Done
-  next f h = from-length f h (long f h) .1
+  sent-next f h = from-length f h (long f h) .1
 
   pub frame-sent : (f : ℕ) → f < n → frames f ≡ sentFrame ex (lanes f) (stores f)
   unfolding Done
   frame-sent f h = from-length f h (long f h) .2
 
   interleaves : Interleaves ex n lanes (λ f. interleavedFrame ex (lanes f) (stores f)) stores
-  interleaves = record { fresh = S .fresh; out = λ f h. refl; next = next }
+  interleaves = record { fresh = S .fresh; out = λ f h. refl; next = sent-next }
 
   carried : (p w q : ℕ) → p < 32 → w < 12 * n → q < 110
       → bitOf 126 (arrived (frames (w / 12)) (32 * (w % 12) + p)) q ≡ interleaved ex (streamBit lanes) p (110 * w + q)

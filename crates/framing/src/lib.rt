@@ -1,10 +1,11 @@
 // One call: a frame sent, or a frame received.
 ghost use mathlib.Core.Path.{_≡_};
 ghost use lib.ListN.{length};
-ghost use Rattle.lanes.specs.definitions.Interleaver.{interleavedStore};
+ghost use Rattle.lanes.specs.definitions.Interleaver.{interleavedStore, deinterleavedFrame, deinterleavedStore};
+ghost use Rattle.lane_words.specs.definitions.LaneWords.{wordLanes};
 ghost use Rattle.framing.specs.definitions.Call.{base};
 ghost use Rattle.framing.specs.definitions.Send.{sentFrame, Sends};
-ghost use Rattle.framing.specs.definitions.Receive.{receivedLanes, receivedStore, receivedFlags, Receives};
+ghost use Rattle.framing.specs.definitions.Receive.{receivedWords, receivedFlags, ReceivesWords, Receives};
 
 // The exchanged places of the base: 2 and 3.
 const EXCHANGED: u64 = 12;
@@ -55,41 +56,62 @@ pub fn send(input: &[u8], store: &mut [u8], output: &mut [u8]) -> u32
     0
 }
 
-// A frame of symbols through every stage back to lanes; the store becomes what is kept.
-fn receive_frame(
-    frame: &[u8; 6144],
-    store: &mut [u8; 2880],
-    lanes: &mut [u8; 5280],
-    flags: &mut [u8; 384],
-)
-    ensures { λ _. ⌜ (now (lanes .exit) ≡ receivedLanes base (now (frame .entry)) (now (store .entry)))
-        × (now (store .exit) ≡ receivedStore (now (frame .entry)) (now (store .entry)))
-        × (now (flags .exit) ≡ receivedFlags (now (frame .entry))) ⌝ }
-{
-    let mut words = [0u64; 768];
-    symbols::words_from_frame(frame, &mut words);
-    decoder::decode_frame(&mut words, flags);
-    let mut interleaved = [0u8; 5280];
-    lane_words::to_lanes(&words, &mut interleaved);
-    lanes::deinterleave(EXCHANGED, &interleaved, store, lanes);
-}
-
-// The same over slices of the right lengths.
-fn receive_slices(input: &[u8], store: &mut [u8], output: &mut [u8], flags: &mut [u8])
-    requires { ⌜ (length (now input) ≡ 6144) × (length (now store) ≡ 2880) × (length (now output) ≡ 5280) × (length (now flags) ≡ 384) ⌝ }
-    ensures { λ _. ⌜ (now (output .exit) ≡ receivedLanes base (now (input .entry)) (now (store .entry)))
-        × (now (store .exit) ≡ receivedStore (now (input .entry)) (now (store .entry))) × (now (flags .exit) ≡ receivedFlags (now (input .entry))) ⌝ }
+// The words of a frame of the right length, mended, and their flags.
+fn mended_words(input: &[u8], words: &mut [u64; 768], flags: &mut [u8; 384])
+    requires { ⌜ length (now input) ≡ 6144 ⌝ }
+    ensures { λ _. ⌜ (now (words .exit) ≡ receivedWords (now (input .entry))) × (now (flags .exit) ≡ receivedFlags (now (input .entry))) ⌝ }
 {
     let mut frame = [0u8; 6144];
     bits::copy(input, &mut frame);
+    symbols::words_from_frame(&frame, words);
+    decoder::decode_frame(words, flags);
+}
+
+// A frame's lock, its words mended and their flags: what a run needs of a frame, and the first half of receiving. A wrong length, or no lock, is refused by
+// its number and changes nothing.
+pub fn receive_words(input: &[u8], words: &mut [u64; 768], flags: &mut [u8; 384]) -> u32
+    ensures { λ r. ⌜ ReceivesWords (now (input .entry)) (now (words .entry)) (now (flags .entry)) r (now (words .exit)) (now (flags .exit)) ⌝ }
+{
+    if input.len() != 6144 {
+        return 1;
+    }
+    if !pilots::locks(input, 0) {
+        return 5;
+    }
+    mended_words(input, words, flags);
+    0
+}
+
+// The words' lanes, deinterleaved and permuted back; the store becomes what is kept.
+fn lanes_back(words: &[u64; 768], store: &mut [u8; 2880], lanes: &mut [u8; 5280])
+    ensures { λ _. ⌜ (now (lanes .exit) ≡ deinterleavedFrame base (wordLanes (now (words .entry))) (now (store .entry)))
+        × (now (store .exit) ≡ deinterleavedStore (wordLanes (now (words .entry))) (now (store .entry))) ⌝ }
+{
+    let mut interleaved = [0u8; 5280];
+    lane_words::to_lanes(words, &mut interleaved);
+    lanes::deinterleave(EXCHANGED, &interleaved, store, lanes);
+}
+
+// The same over slices of the right lengths, and the flags copied.
+fn lanes_out(
+    words: &[u64; 768],
+    told: &[u8; 384],
+    store: &mut [u8],
+    output: &mut [u8],
+    flags: &mut [u8],
+)
+    requires { ⌜ (length (now store) ≡ 2880) × (length (now output) ≡ 5280) × (length (now flags) ≡ 384) ⌝ }
+    ensures { λ _. ⌜ (now (output .exit) ≡ deinterleavedFrame base (wordLanes (now (words .entry))) (now (store .entry)))
+        × (now (store .exit) ≡ deinterleavedStore (wordLanes (now (words .entry))) (now (store .entry)))
+        × (now (flags .exit) ≡ now (told .entry)) ⌝ }
+{
     let mut kept = [0u8; 2880];
     bits::copy(store, &mut kept);
     let mut lanes = [0u8; 5280];
-    let mut told = [0u8; 384];
-    receive_frame(&frame, &mut kept, &mut lanes, &mut told);
+    lanes_back(words, &mut kept, &mut lanes);
     bits::copy(&kept, store);
     bits::copy(&lanes, output);
-    bits::copy(&told, flags);
+    bits::copy(told, flags);
 }
 
 // A frame received: 6,144 symbols in, 5,280 bytes of lanes and 384 flag bytes out, and the store kept. A wrong length, or no lock, is refused by its
@@ -110,9 +132,12 @@ pub fn receive(input: &[u8], store: &mut [u8], output: &mut [u8], flags: &mut [u
     if flags.len() != 384 {
         return 4;
     }
-    if !pilots::locks(input, 0) {
-        return 5;
+    let mut words = [0u64; 768];
+    let mut told = [0u8; 384];
+    let number = receive_words(input, &mut words, &mut told);
+    if number != 0 {
+        return number;
     }
-    receive_slices(input, store, output, flags);
+    lanes_out(&words, &told, store, output, flags);
     0
 }

@@ -20,6 +20,7 @@ use Rattle.bits.proofs.Value.{value-cong, bit-lt, bit-and, number-bits}
 use Rattle.bits.proofs.Fields.{bitAt-lt, bitAt-byte, bytes-bit, bytes-cong, bytes-bytes}
 use Rattle.lanes.specs.definitions.Permutation.{Lanes, Places, named, partner, permuted, lanesOf, laneBytes}
 use Rattle.lanes.specs.definitions.Interleaver.{Rows, stored, rowsOut, rowAt, storeBit, storeNext}
+use Rattle.lanes.specs.statements.Permutation.{PermutedTwice}
 use Rattle.lanes.specs.private.Blocks.{mergedByte, IsMasks, blockStart, blockByte, outFrom, keptFrom, source, IsSource}
 
 -- ---- the permutation
@@ -301,7 +302,7 @@ pub lanes-lt : (a : List ℕ) (p i : ℕ) → lanesOf a p i < 2
 lanes-lt a p i = bitAt-lt a (1320 * p + i)
 
 -- the same both ways
-pub permuted-twice : (ex : Places) (x : Lanes) (p i : ℕ) → p < 32 → permuted ex (permuted ex x) p i ≡ x p i
+pub permuted-twice : PermutedTwice
 unfolding permuted
 permuted-twice ex x p i h = go (ex (i / 10 % 4))
   where

@@ -30,10 +30,10 @@ delayed-at d x i j h =
     rw (le-ltb i d l, e)
 
 -- it depends on the difference only
-delayed-shift : (d k : ℕ) (x : ℕ → ℕ) (i : ℕ) → delayed d x i ≡ delayed (d + k) x (i + k)
-delayed-shift d k x i =
-    ⊎-elim (λ (h : i < d). delayed-early d x i h ∙ sym (delayed-early (d + k) x (i + k) (omega arith)))
-    (λ (h : d ≤ i). delayed-at d x i (i - d) (omega arith) ∙ sym (delayed-at (d + k) x (i + k) (i - d) (omega arith))) (lt-or-le i d)
+pub delayed-same : (d e : ℕ) (x : ℕ → ℕ) (i k : ℕ) → i + e ≡ k + d → delayed d x i ≡ delayed e x k
+delayed-same d e x i k h =
+    ⊎-elim (λ (l : i < d). delayed-early d x i l ∙ sym (delayed-early e x k (omega arith)))
+    (λ (l : d ≤ i). delayed-at d x i (i - d) (omega arith) ∙ sym (delayed-at e x k (i - d) (omega arith))) (lt-or-le i d)
 
 -- and goes by every u-th element, from r on
 pub delayed-grain : (u r D m : ℕ) (x : ℕ → ℕ) → r < u → delayed D (λ k. x (u * k + r)) m ≡ delayed (u * D) x (u * m + r)
@@ -48,27 +48,25 @@ delayed-grain u r D m x h =
 -- ---- one row
 
 -- a store of D elements after m have passed, newest first
-Held : ℕ → ℕ → (ℕ → ℕ) → (ℕ → ℕ) → Type 0
+abbrev pub Held : ℕ → ℕ → (ℕ → ℕ) → (ℕ → ℕ) → Type 0
 Held D m x s = (j : ℕ) → j < D → s j ≡ delayed (suc j) x m
 
 module _ (D m : ℕ) (x s a : ℕ → ℕ) (held : Held D m x s) (now : (k : ℕ) → k < 11 → a k ≡ x (m + k)) where
   row-out : (k : ℕ) → k < 11 → cond (ltb k D) (s (D - suc k)) (a (k - D)) ≡ delayed D x (m + k)
-  unfolding Held
   row-out k h =
       ⊎-elim
       (λ (l : k < D). ap (λ (b : Bool). cond b (s (D - suc k)) (a (k - D))) (lt-ltb k D l) ∙ held (D - suc k) (omega arith)
-      ∙ delayed-shift (suc (D - suc k)) k x m ∙ ap (λ (e : ℕ). delayed e x (m + k)) (omega arith))
+      ∙ delayed-same (suc (D - suc k)) D x m (m + k) (omega arith))
       (λ (l : D ≤ k). ap (λ (b : Bool). cond b (s (D - suc k)) (a (k - D))) (le-ltb k D l) ∙ now (k - D) (omega arith)
       ∙ sym (delayed-at D x (m + k) (m + (k - D)) (omega arith))) (lt-or-le k D)
 
   row-next : (j : ℕ) → j < D → cond (ltb j 11) (a (11 - suc j)) (s (j - 11)) ≡ delayed (suc j) x (m + 11)
-  unfolding Held
   row-next j h =
       ⊎-elim
       (λ (l : j < 11). ap (λ (b : Bool). cond b (a (11 - suc j)) (s (j - 11))) (lt-ltb j 11 l) ∙ now (11 - suc j) (omega arith)
       ∙ sym (delayed-at (suc j) x (m + 11) (m + (11 - suc j)) (omega arith)))
       (λ (l : 11 ≤ j). ap (λ (b : Bool). cond b (a (11 - suc j)) (s (j - 11))) (le-ltb j 11 l) ∙ held (j - 11) (omega arith)
-      ∙ delayed-shift (suc (j - 11)) 11 x m ∙ ap (λ (e : ℕ). delayed e x (m + 11)) (omega arith)) (lt-or-le j 11)
+      ∙ delayed-same (suc (j - 11)) (suc j) x m (m + 11) (omega arith)) (lt-or-le j 11)
 
 -- ---- three rows
 
@@ -117,32 +115,25 @@ module _ (R : Rows) (apart : Apart R) (n : ℕ) (ins outs stores : ℕ → ℕ �
   row-cut : (f r k : ℕ) → f < n → r < 3 → k < 11 → ins f (3 * k + r) ≡ x (3 * (11 * f + k) + r)
   row-cut f r k hf hr hk = cut f (3 * k + r) hf (omega arith) ∙ ap x (omega arith)
 
-  Kept : ℕ → Type 0
-  Kept f = (r : ℕ) → r < 3 → Held (R .depth r) (11 * f) (λ k. x (3 * k + r)) (λ j. stores f (R .start r + j))
-
-  kept : (f : ℕ) → f ≤ n → Kept f
-  unfolding Kept Held Apart
-  kept zero h r hr j hj =
-      run .fresh (R .start r + j) (apart r j hr hj .0) ∙ sym (delayed-early (suc j) (λ k. x (3 * k + r)) (11 * 0) (omega arith))
-  kept (suc f) h r hr j hj = go (kept f (omega arith))
-    where
-      go : Kept f → stores (suc f) (R .start r + j) ≡ delayed (suc j) (λ k. x (3 * k + r)) (11 * suc f)
-      go k =
-          let q : rowAt R (R .start r + j) ≡ r = apart r j hr hj .1 in
-          let d : R .start r + j - R .start r ≡ j = omega arith in
-          run .next f (R .start r + j) h (apart r j hr hj .0)
-          ∙ rw (q, d)
-          (row-next (R .depth r) (11 * f) (λ k. x (3 * k + r)) (λ i. stores f (R .start r + i)) (λ k. ins f (3 * k + r)) (k r hr)
-          (λ i l. row-cut f r i h hr l) j hj
-          ∙ ap (delayed (suc j) (λ k. x (3 * k + r))) (omega arith))
+  -- what each row holds before frame f
+  pub row-kept : (f r : ℕ) → f ≤ n → r < 3 → Held (R .depth r) (11 * f) (λ k. x (3 * k + r)) (λ j. stores f (R .start r + j))
+  unfolding Apart
+  row-kept zero r h hr j hj = run .fresh (R .start r + j) (apart r j hr hj .0) ∙ sym (delayed-early (suc j) (λ k. x (3 * k + r)) (11 * 0) (omega arith))
+  row-kept (suc f) r h hr j hj =
+      let q : rowAt R (R .start r + j) ≡ r = apart r j hr hj .1 in
+      let d : R .start r + j - R .start r ≡ j = omega arith in
+      run .next f (R .start r + j) h (apart r j hr hj .0)
+      ∙ rw (q, d)
+      (row-next (R .depth r) (11 * f) (λ k. x (3 * k + r)) (λ i. stores f (R .start r + i)) (λ k. ins f (3 * k + r)) (row-kept f r (omega arith) hr)
+      (λ i l. row-cut f r i h hr l) j hj
+      ∙ ap (delayed (suc j) (λ k. x (3 * k + r))) (omega arith))
 
   -- the block rule
   pub run-law : (f b : ℕ) → f < n → b < 33 → outs f b ≡ delayed (3 * R .depth ((33 * f + b) % 3)) x (33 * f + b)
-  unfolding Kept
   run-law f b hf h =
       let r : ℕ = b % 3 in
       run .out f b hf h
-      ∙ row-out (R .depth r) (11 * f) (λ k. x (3 * k + r)) (λ i. stores f (R .start r + i)) (λ k. ins f (3 * k + r)) (kept f (omega arith) r (omega arith))
+      ∙ row-out (R .depth r) (11 * f) (λ k. x (3 * k + r)) (λ i. stores f (R .start r + i)) (λ k. ins f (3 * k + r)) (row-kept f r (omega arith) (omega arith))
       (λ i l. row-cut f r i hf (omega arith) l) (b / 3) (omega arith)
       ∙ delayed-grain 3 r (R .depth r) (11 * f + b / 3) x (omega arith)
       ∙ ap₂ (λ (q m : ℕ). delayed (3 * R .depth q) x m) (omega arith) (omega arith)

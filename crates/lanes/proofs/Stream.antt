@@ -1,7 +1,8 @@
--- A run of frames from a fresh store is the block rule over the stream, on the way out and on the way back.
+-- A run of frames from a fresh store is the block rule over the stream, on the way out and on the way back; and what the store holds before each frame.
 -- Assumes nothing.
-use mathlib.Core.Path.{_≡_, ap, ap₂, _∙_}
+use mathlib.Core.Path.{_≡_, sym, ap, ap₂, _∙_}
 use mathlib.Core.Bool.{Bool, true, false, cond}
+use mathlib.Core.Logic.{⊎-elim}
 use mathlib.Core.List.{List}
 use Prim.Native.Nat.{ℕ, suc, _+_, _*_, _-_, _/_, _%_, _^_, _≤_, _<_}
 use native.Mathlib.Nat.{zero-div}
@@ -17,7 +18,8 @@ use Rattle.lanes.specs.definitions.Interleaver.{deinterleavedFrame, dein
 use Rattle.lanes.specs.definitions.Stream.{streamBit, delayed, interleaved}
 use Rattle.lanes.specs.private.Stream.{deinterleaved, Interleaves, Deinterleaves}
 use Rattle.lanes.proofs.Bytewise.{frame-bit, permuted-lt, rows-out-lt, lanes-lt}
-use Rattle.lanes.proofs.Rows.{Apart, sender-apart, receiver-apart, Run, run-law, delayed-grain}
+use Rattle.lanes.proofs.Rows.{lt-or-le, delayed-early, delayed-at, delayed-same, delayed-grain}
+use Rattle.lanes.proofs.Rows.{Apart, sender-apart, receiver-apart, Run, row-kept, run-law}
 
 -- a string of zeros has no bit
 zero-bit : (n i : ℕ) → bitAt (replicate n 0) i ≡ 0
@@ -54,7 +56,7 @@ stored-bit R s x bit p i hp hi =
 
 -- n frames of lanes xs, which are the stream X cut, through the rows R
 module _ (R : Rows) (apart : Apart R) (n : ℕ) (xs : ℕ → Lanes) (bit : (f p i : ℕ) → xs f p i < 2) (stores : ℕ → List ℕ) (X : Lanes)
-    (cut : (f p u : ℕ) → f < n → u < 1320 → xs f p u ≡ X p (1320 * f + u)) (fresh : stores 0 ≡ replicate 2880 0)
+    (cut : (f p u : ℕ) → f < n → p < 32 → u < 1320 → xs f p u ≡ X p (1320 * f + u)) (fresh : stores 0 ≡ replicate 2880 0)
     (next : (f : ℕ) → f < n → stores (suc f) ≡ storeNext R (stores f) (xs f)) where
   -- bit c of every block of lane p
   block-run : (p c : ℕ) → p < 32 → c < 40
@@ -73,6 +75,20 @@ module _ (R : Rows) (apart : Apart R) (n : ℕ) (xs : ℕ → Lanes) (bit : (f p
             ap (λ (s : List ℕ). stored s p (40 * j + c)) (next f hf) ∙ stored-bit R (stores f) (xs f) (bit f) p (40 * j + c) hp (omega arith) ∙ rw (e, d);
       }
 
+  -- which stands in the stream
+  block-cut : (p c f b : ℕ) → p < 32 → c < 40 → f < n → b < 33 → xs f p (40 * b + c) ≡ X p (40 * (33 * f + b) + c)
+  block-cut p c f b hp hc hf hb = cut f p (40 * b + c) hf hp (omega arith) ∙ ap (X p) (omega arith)
+
+  -- before frame f block a of the store, place j of row r, is the one that came b blocks before the frame: j + 1 blocks of the row
+  pub rows-kept : (f p r j a b c : ℕ) → f ≤ n → p < 32 → r < 3 → j < R .depth r → a ≡ R .start r + j → b + r ≡ 3 * suc j → c < 40
+      → stored (stores f) p (40 * a + c) ≡ delayed (40 * b) (X p) (40 * (33 * f) + c)
+  rows-kept f p r j a b c hf hp hr hj at before hc =
+      ap (λ (k : ℕ). stored (stores f) p (40 * k + c)) at
+      ∙ row-kept R apart n (λ f b. xs f p (40 * b + c)) (λ f b. rowsOut R (stores f) (xs f) p (40 * b + c)) (λ f j. stored (stores f) p (40 * j + c))
+      (block-run p c hp hc) (λ m. X p (40 * m + c)) (λ f b. block-cut p c f b hp hc) f r hf hr j hj
+      ∙ delayed-grain 3 r (suc j) (11 * f) (λ m. X p (40 * m + c)) hr ∙ delayed-grain 40 c (3 * suc j) (3 * (11 * f) + r) (X p) hc
+      ∙ delayed-same (40 * (3 * suc j)) (40 * b) (X p) (40 * (3 * (11 * f) + r) + c) (40 * (33 * f) + c) (omega arith)
+
   rows-law : (p i : ℕ) → p < 32 → i < 1320 * n → rowsOut R (stores (i / 1320)) (xs (i / 1320)) p (i % 1320) ≡ delayed (40 * (3 * R .depth (i / 40 % 3))) (X p) i
   rows-law p i hp hi =
       let f : ℕ = i / 1320 in
@@ -83,20 +99,19 @@ module _ (R : Rows) (apart : Apart R) (n : ℕ) (xs : ℕ → Lanes) (bit : (f p
       let w : 40 * (33 * f + b) + c ≡ i = omega arith in
       ap (rowsOut R (stores f) (xs f) p) u
       ∙ run-law R apart n (λ f b. xs f p (40 * b + c)) (λ f b. rowsOut R (stores f) (xs f) p (40 * b + c)) (λ f j. stored (stores f) p (40 * j + c))
-      (block-run p c hp (omega arith)) (λ m. X p (40 * m + c))
-      (λ f b hf hb. cut f p (40 * b + c) hf (omega arith) ∙ ap (X p) (omega arith)) f b (omega arith) (omega arith)
+      (block-run p c hp (omega arith)) (λ m. X p (40 * m + c)) (λ f b. block-cut p c f b hp (omega arith)) f b (omega arith) (omega arith)
       ∙ delayed-grain 40 c (3 * R .depth ((33 * f + b) % 3)) (33 * f + b) (X p) (omega arith)
       ∙ ap₂ (λ (k j : ℕ). delayed (40 * (3 * R .depth (k % 3))) (X p) j) m w
 
 -- a frame's bits are the stream's
-stream-cut : (ins : ℕ → List ℕ) (f p u : ℕ) → u < 1320 → lanesOf (ins f) p u ≡ streamBit ins p (1320 * f + u)
+pub stream-cut : (ins : ℕ → List ℕ) (f p u : ℕ) → u < 1320 → lanesOf (ins f) p u ≡ streamBit ins p (1320 * f + u)
 unfolding streamBit
 stream-cut ins f p u h =
     let e : f ≡ (1320 * f + u) / 1320 = omega arith in
     let d : u ≡ (1320 * f + u) % 1320 = omega arith in
     ap₂ (λ (g v : ℕ). bitAt (ins g) (1320 * p + v)) e d
 
-permuted-cut : (ex : Places) (ins : ℕ → List ℕ) (f p u : ℕ) → u < 1320 → permuted ex (lanesOf (ins f)) p u ≡ permuted ex (streamBit ins) p (1320 * f + u)
+pub permuted-cut : (ex : Places) (ins : ℕ → List ℕ) (f p u : ℕ) → u < 1320 → permuted ex (lanesOf (ins f)) p u ≡ permuted ex (streamBit ins) p (1320 * f + u)
 unfolding permuted
 permuted-cut ex ins f p u h =
     let s : u / 10 % 4 ≡ (1320 * f + u) / 10 % 4 = omega arith in
@@ -113,7 +128,7 @@ module _ (ex : Places) (n : ℕ) (ins outs stores : ℕ → List ℕ) (p i : ℕ
       ap (λ (l : List ℕ). lanesOf l p (i % 1320)) (W .out f (omega arith))
       ∙ frame-bit (rowsOut sender (stores f) x) (rows-out-lt sender (stores f) x (lt f)) p (i % 1320) hp (omega arith)
       ∙ rows-law sender sender-apart n (λ f. permuted ex (lanesOf (ins f))) lt stores (permuted ex (streamBit ins))
-      (λ f p u hf hu. permuted-cut ex ins f p u hu)
+      (λ f p u hf hp hu. permuted-cut ex ins f p u hu)
       (W .fresh) (W .next) p i hp hi
       ∙ ap (λ (k : ℕ). delayed k (permuted ex (streamBit ins) p) i) d
 
@@ -131,6 +146,21 @@ module _ (ex : Places) (n : ℕ) (ins outs stores : ℕ → List ℕ) (p i : ℕ
           (streamBit ins q) i
       row q hq =
           let d : 40 * (3 * (12 - 6 * (i / 40 % 3))) ≡ 40 * (18 * (2 - i / 40 % 3)) = omega arith in
-          rows-law receiver receiver-apart n (λ f. lanesOf (ins f)) (λ f. lanes-lt (ins f)) stores (streamBit ins) (λ f p u hf hu. stream-cut ins f p u hu)
+          rows-law receiver receiver-apart n (λ f. lanesOf (ins f)) (λ f. lanes-lt (ins f)) stores (streamBit ins) (λ f p u hf hp hu. stream-cut ins f p u hu)
           (U .fresh) (U .next) q i hq hi
           ∙ ap (λ (k : ℕ). delayed k (streamBit ins q) i) d
+
+-- what came b blocks before block m of the interleaved lane is of row r there, and came d, 18 r more, before block m of the permuted lane
+pub interleaved-before : (ex : Places) (x : Lanes) (p r m b d c : ℕ) → r < 3 → m % 3 ≡ (b + r) % 3 → d ≡ b + 18 * r → c < 40
+    → delayed (40 * b) (interleaved ex x p) (40 * m + c) ≡ delayed (40 * d) (permuted ex x p) (40 * m + c)
+unfolding interleaved
+interleaved-before ex x p r m b d c hr e more hc =
+    ⊎-elim (λ (l : i < 40 * b). delayed-early (40 * b) (interleaved ex x p) i l ∙ sym (delayed-early (40 * d) (permuted ex x p) i (omega arith)))
+    (λ (l : 40 * b ≤ i).
+    let k = 40 * (m - b) + c in
+    let row : k / 40 % 3 ≡ r = omega arith in
+    delayed-at (40 * b) (interleaved ex x p) i k (omega arith) ∙ ap (λ (q : ℕ). delayed (40 * (18 * q)) (permuted ex x p) k) row
+    ∙ delayed-same (40 * (18 * r)) (40 * d) (permuted ex x p) k i (omega arith)) (lt-or-le i (40 * b))
+  where
+    i : ℕ
+    i = 40 * m + c

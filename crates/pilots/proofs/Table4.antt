@@ -1,11 +1,10 @@
--- Table 5 is what table 4 produces, and only outer levels occur in it.
+-- What specs/statements/Pilots states: table 5 is what table 4 produces, and only outer levels occur in it. Both are tests that antt computes.
 -- Assumes nothing.
 use mathlib.Core.Path.{_≡_, refl}
 use mathlib.Core.Bool.{Bool}
 use mathlib.Core.Logic.{_⊎_, inl, inr}
-use Prim.Native.Nat.{ℕ, zero, suc, _-_, _/_, _%_, _^_, _<_}
+use Prim.Native.Nat.{ℕ, zero, suc, _%_, _<_}
 use native.Mathlib.Omega.{arith}
-use lib.ListN.{getD}
 use lib.Dec.{T, eqb, eqb→eq}
 use lib.IntN.{pos, negsuc}
 use Rattle.bits.specs.definitions.Bits.{tabulate}
@@ -13,28 +12,25 @@ use Rattle.bits.proofs.Table.{each, range-rule}
 use Rattle.pilots.specs.declared.Level.the-variants as level
 use Rattle.pilots.specs.definitions.Levels.{levelOf}
 use Rattle.pilots.specs.definitions.Table5.{pilots}
-use Rattle.pilots.specs.definitions.Pilots.{registerNext, leaves, labelsOf, pilotOf}
+use Rattle.pilots.specs.definitions.Pilots.{registerNext, leaves, labelsOf, pilotOf, pilotLabel}
+use Rattle.pilots.specs.statements.Pilots.{TablesAgree, OuterLevels}
 
 -- table 5 is what the polynomial and the seeds of table 4 produce
-pub tables-agree : pilots ≡ tabulate 96 pilotOf
+pub tables-agree : TablesAgree
 unfolding pilots tabulate pilotOf labelsOf leaves registerNext
 tables-agree = refl
-
--- a pilot's label in tributary t
-abbrev pub pilotLabel : ℕ → ℕ → ℕ
-pilotLabel k t = getD pilots k 0 / 4 ^ (3 - t) % 4
 
 outer-ok : ℕ → Bool
 outer-ok k = each (λ t. eqb (pilotLabel k t % 2) 0) 4 0
 
 outer-test : T (each outer-ok 96 0)
-unfolding outer-ok pilots
+unfolding outer-ok pilots pilotLabel
 outer-test = tt
 
 -- only outer levels occur
-pub outer : (k t : ℕ) → k < 96 → t < 4 → (levelOf (pilotLabel k t) ≡ level.At (negsuc 2)) ⊎ (levelOf (pilotLabel k t) ≡ level.At (pos 3))
-unfolding outer-ok levelOf
-outer k t h l =
+pub outer-levels : OuterLevels
+unfolding outer-ok levelOf pilotLabel
+outer-levels k t h l =
     go (pilotLabel k t) (omega arith)
     (eqb→eq (pilotLabel k t % 2) 0
     (range-rule (λ t. eqb (pilotLabel k t % 2) 0) 4 0 (range-rule outer-ok 96 0 outer-test k (omega arith) (omega arith)) t (omega arith) (omega arith)))

@@ -1,5 +1,5 @@
--- The mapping undone: each place of a lane is met once, in its symbol and its tributary. Each 63 payload symbols carry four whole words, two bits of each
--- word in each symbol.
+-- The mapping undone, as specs/statements/Mapping states it: each place of a lane is met once, in its symbol and its tributary. Each 63 payload symbols
+-- carry four whole words, two bits of each word in each symbol.
 -- Assumes nothing.
 use mathlib.Core.Path.{_≡_, sym, ap, ap₂, _∙_}
 use mathlib.Core.Bool.{Bool, true, cond}
@@ -14,7 +14,8 @@ use Rattle.bits.proofs.Table.{each, range-rule}
 use Rattle.bits.proofs.Count.{count-inject}
 use Rattle.shuffle.specs.definitions.Shuffle.{place, unplace}
 use Rattle.shuffle.proofs.Places.{unplace-place, place-unplace, place-lt, unplace-lt}
-use Rattle.symbols.specs.definitions.Mapping.{laneOf, upper, lower, symbolOf, tributaryOf, bitIn}
+use Rattle.symbols.specs.definitions.Mapping.{laneOf, upper, lower, placeOf, symbolOf, tributaryOf, bitIn}
+use Rattle.symbols.specs.statements.Mapping.{MappingBack}
 
 module _ (p r : ℕ) (h : p < 32) (l : r < 126) where
   pub symbol-lt : symbolOf p r < 504
@@ -47,7 +48,7 @@ module _ (p r : ℕ) (h : p < 32) (l : r < 126) where
       turn x = omega arith
 
   -- at the place r, as its upper or its lower bit
-  pub place-back : cond (eqb (bitIn p r % 2) 0) (upper (symbolOf p r)) (lower (symbolOf p r)) ≡ r
+  pub place-back : placeOf (symbolOf p r) (bitIn p r) ≡ r
   unfolding bitIn upper lower
   place-back = go (ℕ-discrete (bitIn p r % 2) 0)
     where
@@ -68,18 +69,34 @@ module _ (l i : ℕ) (h : l < 504) (b : i < 8) where
   unfolding laneOf
   lane-lanes = omega arith
 
-  -- a place of symbol l, whichever of the two it is
-  module _ (r : ℕ) (half : r / 2 ≡ l % 63) where
-    pub symbol-back : symbolOf (laneOf l (i / 2)) r ≡ l
-    unfolding symbolOf
-    symbol-back = rw (lane-lanes, half) (omega arith)
+  -- one of the two places of symbol l, by its parity
+  place-is : (placeOf l i < 126) × (placeOf l i / 2 ≡ l % 63) × ((placeOf l i + l) % 2 ≡ i % 2)
+  unfolding upper lower
+  place-is = go (ℕ-discrete (i % 2) 0)
+    where
+      go : Dec (i % 2 ≡ 0) → (placeOf l i < 126) × (placeOf l i / 2 ≡ l % 63) × ((placeOf l i + l) % 2 ≡ i % 2)
+      go (yes e) = rw (eq-eqb (i % 2) 0 e) (omega arith, omega arith, omega arith)
+      go (no e) = rw (ne-eqb (i % 2) 0 e) (omega arith, omega arith, omega arith)
 
-    pub bit-back : (r + l) % 2 ≡ i % 2 → bitIn (laneOf l (i / 2)) r ≡ i
-    unfolding bitIn tributaryOf laneOf
-    bit-back e = rw (symbol-back, e, turn (2 * l + l / 2 % 2) (l / 63) (i / 2) (omega arith)) (omega arith)
-      where
-        turn : (x y t : ℕ) → t < 4 → (4 * y + (x + t) % 4 + 3 * x) % 4 ≡ t
-        turn x y t l = omega arith
+  pub place-of-lt : placeOf l i < 126
+  place-of-lt = place-is .0
+
+  pub symbol-back : symbolOf (laneOf l (i / 2)) (placeOf l i) ≡ l
+  unfolding symbolOf
+  symbol-back = rw (lane-lanes, place-is .1) (omega arith)
+
+  pub bit-back : bitIn (laneOf l (i / 2)) (placeOf l i) ≡ i
+  unfolding bitIn tributaryOf laneOf
+  bit-back = rw (symbol-back, place-is .2, turn (2 * l + l / 2 % 2) (l / 63) (i / 2) (omega arith)) (omega arith)
+    where
+      turn : (x y t : ℕ) → t < 4 → (4 * y + (x + t) % 4 + 3 * x) % 4 ≡ t
+      turn x y t l = omega arith
+
+pub mapping-back : MappingBack
+mapping-back = (
+  λ p r h l. (symbol-lt p r h l, bitIn-lt p r h l, lane-back p r h l, place-back p r h l),
+  λ l i h b. (lane-lt l i h b, place-of-lt l i h b, symbol-back l i h b, bit-back l i h b),
+)
 
 -- ---- four whole words in each 63 payload symbols
 

@@ -1,31 +1,33 @@
--- The way there and back: the words of a frame of words are those words, and a frame with the right pilots is the frame of its words.
+-- The way there and back, as specs/statements/Frame states it: the words of a frame of words are those words, and a frame with the right pilots is the
+-- frame of its words.
 -- Assumes nothing.
 use mathlib.Core.Path.{_≡_, refl, sym, ap, ap₂, _∙_}
 use mathlib.Core.Bool.{true, not, cond}
 use mathlib.Core.List.{List}
-use Prim.Native.Nat.{ℕ, _+_, _-_, _*_, _/_, _%_, _^_, _<_}
-use native.Mathlib.Nat.{mod-eq-of-lt, zero-add}
-use native.Mathlib.Decide.{ℕ-discrete}
+use Prim.Native.Nat.{ℕ, _+_, _-_, _*_, _/_, _%_, _^_, _≤_, _<_}
+use native.Mathlib.Nat.{zero-add}
+use native.Mathlib.Decide.{ℕ-discrete, decLt}
 use native.Mathlib.Omega.{arith}
-use lib.Arith.{digits-lt, digits-div, digits-mod}
-use lib.Dec.{eqb, ltb}
-use lib.ListN.{length, getD}
+use lib.Dec.{T, eqb, ltb, ltb→lt}
+use lib.ListN.{length, getD, List·getD-eq-default}
 use borrow.Author.Tests.{eq-eqb, ne-eqb}
-use Rattle.bits.specs.definitions.Bits.{bitOf, bitAt, AllBytes}
-use Rattle.bits.specs.definitions.Words.{wordOf, wordAt, halfOf, rowOf}
+use Rattle.bits.specs.definitions.Bits.{number, bitOf, bitAt, AllBytes}
+use Rattle.bits.specs.definitions.Words.{wordAt}
+use Rattle.bits.proofs.Table.{every, table-rule}
 use Rattle.bits.proofs.Tabulate.{length-tabulate, getD-tabulate, is-tabulate}
 use Rattle.bits.proofs.Value.{value-cong, value-lt, bit-lt, bit-number, number-bits}
 use Rattle.bits.proofs.Count.{count-none}
 use Rattle.bits.proofs.Fields.{bitAt-lt, bitAt-byte}
-use Rattle.bits.proofs.Words.{row-at}
+use Rattle.bits.proofs.Words.{word-lt, row-at, row-cong}
 use Rattle.shuffle.specs.definitions.Shuffle.{place, unplace}
-use Rattle.symbols.specs.definitions.Mapping.{laneOf, upper, lower, payloadAt, symbolOf, bitIn}
+use Rattle.symbols.specs.definitions.Mapping.{laneOf, placeOf, payloadAt, symbolOf, bitIn}
 use Rattle.pilots.specs.definitions.Table5.{pilots}
 use Rattle.pilots.specs.definitions.Pilots.{met, wrongPilots, lockLimit, locks}
 use Rattle.pilots.proofs.Lock.{met-there}
 use Rattle.symbols.specs.definitions.Frame.{carriedBit, payload, symbolAt, frameOf, placedBit, arrived, wordsOf}
+use Rattle.symbols.specs.statements.Frame.{FramePlaces, WordsBack, FrameBack}
 use Rattle.shuffle.proofs.Places.{unplace-place, place-unplace, place-lt, unplace-lt}
-use Rattle.symbols.proofs.Places.{symbol-lt, bitIn-lt, lane-back, place-back, lane-lt, symbol-back, bit-back}
+use Rattle.symbols.proofs.Places.{symbol-lt, bitIn-lt, lane-back, place-back, lane-lt, place-of-lt, symbol-back, bit-back}
 
 -- ---- payload symbols in the frame
 
@@ -61,6 +63,40 @@ frame-length : (s : List ℕ) → length (frameOf s) ≡ 6144
 unfolding frameOf
 frame-length s = length-tabulate 6144 (symbolAt s)
 
+pub frame-places : FramePlaces
+unfolding payload
+frame-places s = (frame-length s, frame-pilot s, symbol)
+  where
+    symbol : (k l : ℕ) → k < 12 → l < 504 → getD (frameOf s) (payloadAt (504 * k + l)) 0 ≡ number 8 (carriedBit s k l)
+    symbol k l hk hl =
+        let d : (504 * k + l) / 504 ≡ k = omega arith in
+        let r : (504 * k + l) % 504 ≡ l = omega arith in
+        frame-payload s (504 * k + l) (omega arith) ∙ ap₂ (λ (a b : ℕ). number 8 (carriedBit s a b)) d r
+
+carried-lt : (s : List ℕ) (k l i : ℕ) → carriedBit s k l i < 2
+unfolding carriedBit
+carried-lt s k l i = bit-lt 126 _ _
+
+-- every symbol is a byte
+pilots-test : T (every (λ _ b. ltb b 256) 0 pilots)
+unfolding pilots
+pilots-test = tt
+
+pilots-length : length pilots ≡ 96
+unfolding pilots
+pilots-length = refl
+
+pub frame-bytes : (s : List ℕ) → AllBytes (frameOf s)
+unfolding frameOf symbolAt payload
+frame-bytes s = record { byte = λ t. at t (decLt t 6144) (ℕ-discrete (t % 64) 0) }
+  where
+    at : (t : ℕ) → Dec (t < 6144) → Dec (t % 64 ≡ 0) → getD (frameOf s) t 0 < 256
+    at t (no h) _ = let out : length (frameOf s) ≤ t = rw (frame-length s) (omega arith) in rw List·getD-eq-default (omega arith)
+    at t (yes h) (yes e) =
+        rw (getD-tabulate 6144 (symbolAt s) t 0 h, eq-eqb (t % 64) 0 e)
+        (ltb→lt (getD pilots (t / 64) 0) 256 (table-rule (λ _ b. ltb b 256) pilots pilots-test (t / 64) (rw pilots-length (omega arith))))
+    at t (yes h) (no e) = rw (getD-tabulate 6144 (symbolAt s) t 0 h, ne-eqb (t % 64) 0 e) (value-lt 2 8 _ (λ i _. carried-lt s _ _ i))
+
 -- a frame with the right pilots locks
 pub pilots-lock : (f : List ℕ) → length f ≡ 6144 → ((k : ℕ) → k < 96 → getD f (64 * k) 0 ≡ getD pilots k 0) → locks f 0 ≡ true
 unfolding locks wrongPilots
@@ -74,10 +110,6 @@ pub frame-locks : (s : List ℕ) → locks (frameOf s) 0 ≡ true
 frame-locks s = pilots-lock (frameOf s) (frame-length s) (frame-pilot s)
 
 -- ---- a word's bits
-
-carried-lt : (s : List ℕ) (k l i : ℕ) → carriedBit s k l i < 2
-unfolding carriedBit
-carried-lt s k l i = bit-lt 126 _ _
 
 pub placed-lt : (f : List ℕ) (k p r : ℕ) → placedBit f k p r < 2
 unfolding placedBit
@@ -121,34 +153,9 @@ arrived-frame s i h l =
     ∙ ap₂ (λ (a b : ℕ). bitOf 126 (wordAt s a) b) e (unplace-place (i % 32) q))
     ∙ number-bits 126 (wordAt s i) l
 
--- words of 126 bits, two numbers a word
-pub record Row (s : List ℕ) : Type 0 where
-  pub long : length s ≡ 768
-  pub upper-lt : (i : ℕ) → i < 384 → getD s (2 * i) 0 < 2 ^ 62
-  pub lower-lt : (i : ℕ) → i < 384 → getD s (2 * i + 1) 0 < 2 ^ 64
-
--- `words_from_frame` of `frame_from_words` gives the words back
-pub words-frame : (s : List ℕ) → Row s → wordsOf (frameOf s) ≡ s
-unfolding wordsOf halfOf wordAt wordOf
-words-frame s R = sym (is-tabulate 0 s 768 (halfOf (arrived (frameOf s))) (R .long) (λ j h. at j h (ℕ-discrete (j % 2) 0)))
-  where
-    word-is : (i : ℕ) → i < 384 → wordAt s i ≡ getD s (2 * i) 0 * 2 ^ 64 + getD s (2 * i + 1) 0
-    word-is i h = ap (λ (v : ℕ). v * 2 ^ 64 + getD s (2 * i + 1) 0) (mod-eq-of-lt (R .upper-lt i h))
-
-    arrived-is : (i : ℕ) → i < 384 → arrived (frameOf s) i ≡ getD s (2 * i) 0 * 2 ^ 64 + getD s (2 * i + 1) 0
-    arrived-is i h = arrived-frame s i h (rw (word-is i h) (digits-lt (R .upper-lt i h) (R .lower-lt i h))) ∙ word-is i h
-
-    at : (j : ℕ) → j < 768 → Dec (j % 2 ≡ 0) → getD s j 0 ≡ cond (eqb (j % 2) 0) (arrived (frameOf s) (j / 2) / 2 ^ 64) (arrived (frameOf s) (j / 2) % 2 ^ 64)
-    at j h (yes e) =
-        let d : 2 * (j / 2) ≡ j = omega arith in
-        let l = R .lower-lt (j / 2) (omega arith) in
-        rw (eq-eqb (j % 2) 0 e)
-        (sym (ap (λ (v : ℕ). v / 2 ^ 64) (arrived-is (j / 2) (omega arith)) ∙ digits-div (getD s (2 * (j / 2)) 0) l ∙ ap (λ (k : ℕ). getD s k 0) d))
-    at j h (no e) =
-        let d : 2 * (j / 2) + 1 ≡ j = omega arith in
-        let l = R .lower-lt (j / 2) (omega arith) in
-        rw (ne-eqb (j % 2) 0 e)
-        (sym (ap (λ (v : ℕ). v % 2 ^ 64) (arrived-is (j / 2) (omega arith)) ∙ digits-mod (getD s (2 * (j / 2)) 0) l ∙ ap (λ (k : ℕ). getD s k 0) d))
+pub words-back : WordsBack
+unfolding wordsOf wordAt
+words-back s h = row-cong 384 _ _ (λ i l. arrived-frame s i l (word-lt (getD s (2 * i) 0) (getD s (2 * i + 1) 0) (h (2 * i + 1))))
 
 -- ---- and the other way: a frame with the right pilots
 
@@ -158,32 +165,31 @@ placed-is f k p r = refl
 
 -- bit i of a payload symbol, put together from the words of the frame
 carried-words : (f : List ℕ) (k l i : ℕ) → k < 12 → l < 504 → i < 8 → carriedBit (wordsOf f) k l i ≡ bitAt f (8 * payloadAt (504 * k + l) + i)
-unfolding carriedBit wordsOf upper lower
-carried-words f k l i hk hl hi = go (ℕ-discrete (i % 2) 0)
+unfolding carriedBit wordsOf
+carried-words f k l i hk hl hi =
+    ap (λ (v : ℕ). bitOf 126 v (unplace p r)) (row-at 384 (arrived f) w (omega (arith, lt)) (arrived-lt f w))
+    ∙ arrived-bit f w (unplace p r) (unplace-lt p r (place-of-lt l i hl hi))
+    ∙ ap₂ (λ (a b : ℕ). placedBit f a b (place b (unplace p r))) word lane
+    ∙ ap (placedBit f k p) (place-unplace p r) ∙ placed-is f k p r
+    ∙ ap₂ (λ (a b : ℕ). bitAt f (8 * payloadAt (504 * k + a) + b)) (symbol-back l i hl hi) (bit-back l i hl hi)
   where
-    placed : (r : ℕ) → r / 2 ≡ l % 63 → (r + l) % 2 ≡ i % 2 → placedBit f k (laneOf l (i / 2)) r ≡ bitAt f (8 * payloadAt (504 * k + l) + i)
-    placed r half e =
-        placed-is f k (laneOf l (i / 2)) r
-        ∙ ap₂ (λ (a b : ℕ). bitAt f (8 * payloadAt (504 * k + a) + b)) (symbol-back l i hl hi r half) (bit-back l i hl hi r half e)
+    p : ℕ
+    p = laneOf l (i / 2)
 
-    at : (r : ℕ) → r < 126 → r / 2 ≡ l % 63 → (r + l) % 2 ≡ i % 2
-        → bitOf 126 (wordAt (rowOf 384 (arrived f)) (32 * k + laneOf l (i / 2))) (unplace (laneOf l (i / 2)) r) ≡ bitAt f (8 * payloadAt (504 * k + l) + i)
-    at r hr half e =
-        let w = 32 * k + laneOf l (i / 2) in
-        let lt = lane-lt l i hl hi in
-        let number : w / 32 ≡ k = omega (arith, lt) in
-        let lane : w % 32 ≡ laneOf l (i / 2) = omega (arith, lt) in
-        ap (λ (v : ℕ). bitOf 126 v (unplace (laneOf l (i / 2)) r)) (row-at 384 (arrived f) w (omega (arith, lt)) (arrived-lt f w))
-        ∙ arrived-bit f w (unplace (laneOf l (i / 2)) r) (unplace-lt (laneOf l (i / 2)) r hr)
-        ∙ ap₂ (λ (a b : ℕ). placedBit f a b (place b (unplace (laneOf l (i / 2)) r))) number lane
-        ∙ ap (placedBit f k (laneOf l (i / 2))) (place-unplace (laneOf l (i / 2)) r) ∙ placed r half e
+    r : ℕ
+    r = placeOf l i
 
-    go : Dec (i % 2 ≡ 0)
-        → bitOf 126 (wordAt (rowOf 384 (arrived f)) (32 * k + laneOf l (i / 2)))
-        (unplace (laneOf l (i / 2)) (cond (eqb (i % 2) 0) (2 * (l % 63) + l % 2) (2 * (l % 63) + (l + 1) % 2)))
-        ≡ bitAt f (8 * payloadAt (504 * k + l) + i)
-    go (yes e) = rw (eq-eqb (i % 2) 0 e) (at (2 * (l % 63) + l % 2) (omega arith) (omega arith) (omega arith))
-    go (no e) = rw (ne-eqb (i % 2) 0 e) (at (2 * (l % 63) + (l + 1) % 2) (omega arith) (omega arith) (omega arith))
+    w : ℕ
+    w = 32 * k + p
+
+    lt : p < 32
+    lt = lane-lt l i hl hi
+
+    word : w / 32 ≡ k
+    word = omega (arith, lt)
+
+    lane : w % 32 ≡ p
+    lane = omega (arith, lt)
 
 -- a payload symbol is the frame's
 payload-words : (f : List ℕ) → AllBytes f → (m : ℕ) → m < 6048 → payload (wordsOf f) m ≡ getD f (payloadAt m) 0
@@ -195,14 +201,16 @@ payload-words f B m h =
     ∙ bitAt-byte f (payloadAt m) i l)
     ∙ number-bits 8 (getD f (payloadAt m) 0) (B .byte (payloadAt m))
 
--- `frame_from_words` of `words_from_frame` gives such a frame back
-pub frame-words : (f : List ℕ) → AllBytes f → length f ≡ 6144 → ((k : ℕ) → k < 96 → getD f (64 * k) 0 ≡ getD pilots k 0) → frameOf (wordsOf f) ≡ f
+pub frame-back : FrameBack
 unfolding frameOf symbolAt
-frame-words f B long P = sym (is-tabulate 0 f 6144 (symbolAt (wordsOf f)) long (λ t h. at t h (ℕ-discrete (t % 64) 0)))
+frame-back f B = (λ m h. frame-payload (wordsOf f) m h ∙ payload-words f B m h, whole)
   where
-    at : (t : ℕ) → t < 6144 → Dec (t % 64 ≡ 0)
-        → getD f t 0 ≡ cond (eqb (t % 64) 0) (getD pilots (t / 64) 0) (payload (wordsOf f) (63 * (t / 64) + t % 64 - 1))
-    at t h (yes e) = let d : t ≡ 64 * (t / 64) = omega arith in rw (eq-eqb (t % 64) 0 e) (ap (λ (k : ℕ). getD f k 0) d ∙ P (t / 64) (omega arith))
-    at t h (no e) =
-        rw (ne-eqb (t % 64) 0 e)
-        (sym (payload-words f B (63 * (t / 64) + t % 64 - 1) (omega arith) ∙ ap (λ (k : ℕ). getD f k 0) (payload-back t e)))
+    whole : length f ≡ 6144 → ((k : ℕ) → k < 96 → getD f (64 * k) 0 ≡ getD pilots k 0) → frameOf (wordsOf f) ≡ f
+    whole long P = sym (is-tabulate 0 f 6144 (symbolAt (wordsOf f)) long (λ t h. at t h (ℕ-discrete (t % 64) 0)))
+      where
+        at : (t : ℕ) → t < 6144 → Dec (t % 64 ≡ 0)
+            → getD f t 0 ≡ cond (eqb (t % 64) 0) (getD pilots (t / 64) 0) (payload (wordsOf f) (63 * (t / 64) + t % 64 - 1))
+        at t h (yes e) = let d : t ≡ 64 * (t / 64) = omega arith in rw (eq-eqb (t % 64) 0 e) (ap (λ (k : ℕ). getD f k 0) d ∙ P (t / 64) (omega arith))
+        at t h (no e) =
+            rw (ne-eqb (t % 64) 0 e)
+            (sym (payload-words f B (63 * (t / 64) + t % 64 - 1) (omega arith) ∙ ap (λ (k : ℕ). getD f k 0) (payload-back t e)))

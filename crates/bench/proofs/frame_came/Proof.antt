@@ -1,28 +1,28 @@
 -- `bench::frame_came` meets its contract, phase by phase. Assumes nothing.
+use Rattle.bits.proofs.Cases.{at-case}
+use Rattle.bench.specs.declared.Phase.{Phase}
+use Rattle.bench.specs.declared.Stepped.{Stepped}
 use Rattle.bench.specs.definitions.Run.{frameCame, frameRefusal}
-use Rattle.bench.proofs.Steps.{by-phase}
 use borrow.Author.Needs.{needs}
 use Rattle.bench.proofs.frame_came.Statement.{statement}
 use Rattle.bench.proofs.frame_came.Tie as tie
 
+-- what a frame comes to in a phase
+abbrev coming : tie.Start → Phase → Stepped
+coming c p =
+    let x = c .args in record { refusal = frameRefusal p (x .run) (x .got) (x .symbols .now); run = frameCame p (x .run) (x .got) (x .symbols .now) }
+
 returns : tie.Need-returns
 unfolding frameCame frameRefusal
-returns c =
-    let x = c .before .before .before .before .args in
-    let e = by-phase (record { run = x .run; store = x .store .now }) (x .got) (x .symbols .now) (c .before .enum-told .given .1) in
-    rw (c .stopped .ensures) e
+returns c = rw (c .stopped .ensures) (at-case (coming (c .before .before .before .before)) (c .before .enum-told .given .1))
 
 returns-2 : tie.Need-returns-2
 unfolding frameCame frameRefusal
-returns-2 c =
-    let x = c .before .before .before .before .before .args in
-    let e = by-phase (record { run = x .run; store = x .store .now }) (x .got) (x .symbols .now) (c .before .before .enum-told2 .given .1) in
-    rw (c .framed .ensures .0, c .framed .ensures .1) e
+returns-2 c = rw (c .framed .ensures) (at-case (coming (c .before .before .before .before)) (c .before .enum-told2 .given .1))
 
 returns-3 : tie.Need-returns-3
 unfolding frameCame frameRefusal
-returns-3 c =
-    let x = c .before .before .before .args in by-phase (record { run = x .run; store = x .store .now }) (x .got) (x .symbols .now) (c .enum-told3 .given .1)
+returns-3 c = at-case (coming (c .before .before .before)) (c .enum-told3 .given .1)
 
 pub frame-came-spec : {M : Type 1} → statement M
 frame-came-spec =

@@ -1,20 +1,22 @@
--- The walk over the whole and the walk piece by piece come to the same; `proofs/Walk` and `proofs/Stores` prove it.
+-- The walk over the whole, piece by piece, by any cut, and by the reader come to the same; `proofs/Walk` and `proofs/Reading` prove it.
 -- Assumes nothing.
 use mathlib.Core.Path.{_≡_}
+use mathlib.Core.Bool.{true}
+use mathlib.Core.Logic.{_⊎_}
 use mathlib.Core.List.{List}
 use Prim.Native.Nat.{ℕ}
-use lib.ListN.{length}
-use Rattle.bench.specs.definitions.Run.{State, begun, fresh, stepped}
-use Rattle.bench.specs.definitions.Walk.{examined, pieces, through}
+use Rattle.bench.specs.declared.Run.{Run}
+use Rattle.bench.specs.definitions.Run.{begun, isStopped}
+use Rattle.bench.specs.definitions.Walk.{examined, pieces, through, joined, Reading}
 
 -- to step through the pieces is to walk over the whole
 abbrev pub PiecesAlike : Type 0
-PiecesAlike = (s : List ℕ) → through fresh (pieces s) ≡ examined s
+PiecesAlike = (s : List ℕ) → through begun (pieces s) ≡ examined s
 
--- whatever the store holds before the first order, the run comes to the same
-abbrev pub AnyStore : Type 0
-AnyStore = (s store : List ℕ) → through (record { run = begun; store = store }) (pieces s) .run ≡ examined s .run
+-- nothing is passed over: whatever bytes are given to each step, the run is stopped, or it is that of all of them
+abbrev pub NothingPassedOver : Type 0
+NothingPassedOver = (given : List (List ℕ)) → (isStopped (through begun given .phase) ≡ true) ⊎ (through begun given ≡ examined (joined given))
 
--- a whole store stays whole
-abbrev pub StoreStays : Type 0
-StoreStays = (st : State) (piece : List ℕ) → length (st .store) ≡ 2880 → length (stepped st piece .store) ≡ 2880
+-- the reader walks over the capture: to whatever run its calls come, that is the capture's; and there are such calls
+abbrev pub ReaderWalks : Type 0
+ReaderWalks = ((s : List ℕ) (r : Run) → Reading s r → r ≡ examined s) × ((s : List ℕ) → Reading s (examined s))

@@ -1,7 +1,7 @@
 -- Capture records and their reader (01, capture records; refusals 6 to 9 and the paragraph under the list). Places count bytes of the capture from 0 on; a
 -- place may lie beyond the end.
 -- Assumes nothing.
-use mathlib.Core.Bool.{cond}
+use mathlib.Core.Bool.{Bool, cond, _&&_}
 use mathlib.Core.List.{List, [], _∷_, _++_}
 use Prim.Native.Nat.{ℕ, zero, suc, _+_, _-_, _/_, _%_, _^_}
 use lib.ListN.{length, getD, take, drop}
@@ -98,6 +98,18 @@ nextOf End i = i
 nextOf (Refused refusal) i = i
 nextOf (Order start asked allowed next) i = next
 nextOf (Frame number from next) i = next
+
+-- the number of more than one record (house: 01 lists none for it, and 02's end with 21)
+abbrev pub moreThanOne : ℕ
+moreThanOne = 22
+
+-- in so many bytes stands a record, and more behind it
+abbrev pub more : Read → ℕ → Bool
+more read bytes = ltb 0 (nextOf read 0) && ltb (nextOf read 0) bytes
+
+-- the one record that these bytes are; where more stands behind it they are refused
+unfoldable pub readOne : List ℕ → Read
+readOne s = cond (more (readAt s 0) (length s)) (Refused moreThanOne) (readAt s 0)
 
 -- what is read of the part that begins at place i, with its places counted in the whole
 unfoldable pub shifted : ℕ → Read → Read

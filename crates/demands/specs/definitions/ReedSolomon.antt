@@ -44,9 +44,13 @@ Has ex n p w k q s =
 unfoldable pub countInLanes : (ℕ → ℕ → Bool) → ℕ → ℕ
 countInLanes f n = count (λ i. f (i % 32) (i / 32)) (32 * n)
 
--- how many words of n frames carry a symbol of codeword c and are hit by more than two flips
+-- word w of lane p is hit by more than two flips
+unfoldable pub heavy : (flips : ℕ → List ℕ) → ℕ → ℕ → Bool
+heavy flips p w = ltb 2 (flipsIn flips p w)
+
+-- how many words of n frames are so hit and carry a symbol of codeword c
 unfoldable pub heavyWords : Places → ℕ → (flips : ℕ → List ℕ) → Labels → ℕ → ℕ
-heavyWords ex n flips label c = countInLanes (λ p w. ltb 2 (flipsIn flips p w) && carries ex label c p w) (12 * n)
+heavyWords ex n flips label c = countInLanes (λ p w. heavy flips p w && carries ex label c p w) (12 * n)
 
 -- symbol s of lane p has come back wrong, 144 symbols later: at least one of its ten bits differs from what receiving the undamaged frames returns
 unfoldable pub wrongSymbol : (back clean : ℕ → List ℕ) → ℕ → ℕ → Bool

@@ -18,7 +18,7 @@ use Rattle.capture.specs.declared.Read.the-variants.{Frame}
 use Rattle.capture.specs.definitions.Capture.{layout, readAt, orderRecord, frameNumber, frameRecords}
 use Rattle.bench.specs.declared.Run.{Run}
 use Rattle.bench.specs.declared.Phase.the-variants.{Going}
-use Rattle.bench.specs.definitions.Run.{State, fresh, stepped}
+use Rattle.bench.specs.definitions.Run.{begun, stepped}
 use Rattle.bench.specs.definitions.Walk.{examined, pieces}
 use Rattle.report.specs.definitions.Report.{ascii, text, writtenBytes, written}
 
@@ -72,17 +72,17 @@ measuredRun m =
 abbrev pub flaggedWords : {s : List ℕ} → Measured s → ℕ
 flaggedWords m = wordsIn 3 (m .frames) (m .asked)
 
--- a walk record by record, as calls of `step` allow: from a fresh run and store on, one call for each piece that the program cuts off
+-- a walk record by record, as calls of `step` allow: from the run before its first record on, one call for each piece that the program cuts off
 pub record Stepwise (s : List ℕ) (r : Run) : Type 0 where
-  pub states : ℕ → State
-  pub first : states 0 ≡ fresh
-  pub call : (k : ℕ) → k < length (pieces s) → states (suc k) ≡ stepped (states k) (getD (pieces s) k [])
-  pub last : r ≡ states (length (pieces s)) .run
+  pub runs : ℕ → Run
+  pub first : runs 0 ≡ begun
+  pub call : (k : ℕ) → k < length (pieces s) → runs (suc k) ≡ stepped (runs k) (getD (pieces s) k [])
+  pub last : r ≡ runs (length (pieces s))
 
 -- a capture examined and its report, as the calls allow: `examine_capture` or a walk record by record, and `report` into a buffer that holds it
 pub record Examination (s report : List ℕ) : Type 0 where
   pub run : Run
-  pub walk : (run ≡ examined s .run) ⊎ Stepwise s run
+  pub walk : (run ≡ examined s) ⊎ Stepwise s run
   pub buffer : List ℕ
   pub out : List ℕ
   pub bytes : ℕ

@@ -1,24 +1,42 @@
--- The demands over streams, captures and a host's calls, all of them on one page: `proofs/Theorems` has a value of it.
+-- The demands over words, streams and captures, all of them on one page; what speaks of calls from C has a page of its own, `Calls`. `proofs/Theorems` has a
+-- value of both.
 -- Assumes nothing.
+use Rattle.decoder.specs.statements.Word.{MendsTwo, FlaggedExactly, SmallestDistance}
+use Rattle.account.specs.statements.Kept.{KeptFromOrder}
+use Rattle.framing.specs.statements.Stream.{BlockRule}
+use Rattle.framing.specs.statements.Figures.{BenchFigures}
+use Rattle.demands.specs.statements.Symbols.{SymbolRule}
 use Rattle.demands.specs.statements.Return.{Return, UndamagedExist, OneFrame}
+use Rattle.demands.specs.statements.Stores.{StoresHold, LastKept}
+use Rattle.demands.specs.statements.Flags.{FlagsExactly}
 use Rattle.demands.specs.statements.Trial.{FlipsCounted, RefusedExactly, TrialsExist}
 use Rattle.demands.specs.statements.OneForAll.{OneForAll, TwoFlips}
-use Rattle.demands.specs.statements.Tallies.{TalliesAlike}
+use Rattle.demands.specs.statements.Tallies.{TalliesAlike, ReportsAlike}
 use Rattle.demands.specs.statements.Verdict.{PassExactly, FailExactly, NotMeasuredExactly, ProgramSays, MeasuredOnce, ExaminationsExist, ArrivedAlways}
 use Rattle.demands.specs.statements.Verdict.{NeverPass, AllCounted, AlwaysCounted, StepNumbers}
-use Rattle.demands.specs.statements.Host.{HostedRun, HostedVerdict, HostedReport, HostedExists, StoppedVerdict}
 use Rattle.demands.specs.statements.ReedSolomon.{SpansExist, SpansLabel, CarriesExactly, ReedSolomonBound, FourPairs, OtherPlaces, OtherPairs}
 
--- the demands over streams, captures and a host's calls, sentence by sentence
+-- the demands over words, streams and captures, sentence by sentence
 pub record Demands : Type 0 where
   -- demand 1: by which numbers a record is refused in a run
   pub stepNumbers : StepNumbers
-  -- demand 2: an undamaged stream comes back; one frame alone; and there are such streams
+  -- demand 2: sent frames symbol for symbol; what their words carry; and the figures that 01 prints
+  pub symbols : SymbolRule
+  pub blocks : BlockRule
+  pub figures : BenchFigures
+  -- demand 2: an undamaged stream comes back; one frame alone; there are such streams; and the last 36 blocks are in the two stores, row by row and bit by bit
   pub returns : Return
   pub oneFrame : OneFrame
   pub undamaged : UndamagedExist
-  -- demand 2: at most two flips in a word are mended
+  pub stores : StoresHold
+  pub lastKept : LastKept
+  -- demand 2: at most two flips in a word are mended, of one word and over a stream; and how far code words lie apart
+  pub mendsTwo : MendsTwo
   pub twoFlips : TwoFlips
+  pub distance : SmallestDistance
+  -- demand 2: a word is flagged exactly when no code word lies within two bits; and so it is with the flag bytes of a call
+  pub flagged : FlaggedExactly
+  pub flagBytes : FlagsExactly
   -- demand 2: PASS exactly if; FAIL likewise; and everything else; what the program prints; that a capture has one meaning and a report; and what an examiner
   -- may read from it
   pub pass : PassExactly
@@ -31,16 +49,12 @@ pub record Demands : Type 0 where
   pub arrived : ArrivedAlways
   pub allCounted : AllCounted
   pub alwaysCounted : AlwaysCounted
-  -- demand 2 for a host in C: its calls come to the capture's run, and so to its verdict and its report; there are such calls; and a run stopped is not
-  -- measured
-  pub hostedRun : HostedRun
-  pub hostedVerdict : HostedVerdict
-  pub hostedReport : HostedReport
-  pub hosted : HostedExists
-  pub stopped : StoppedVerdict
-  -- demand 3, first half, through the account too; and that there are trials, what they are refused by, and what counts as a flip
+  -- demand 2: what an account keeps from a new order on
+  pub kept : KeptFromOrder
+  -- demand 3, first half, through the account and through the program too; and that there are trials, what they are refused by, and what counts as a flip
   pub oneForAll : OneForAll
   pub tallies : TalliesAlike
+  pub reports : ReportsAlike
   pub trials : TrialsExist
   pub refused : RefusedExactly
   pub flips : FlipsCounted

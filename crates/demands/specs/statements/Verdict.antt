@@ -12,8 +12,9 @@ use Rattle.bits.specs.definitions.Bits.{AllBytes}
 use Rattle.pilots.specs.definitions.Pilots.{locks}
 use Rattle.account.specs.definitions.Account.{total}
 use Rattle.capture.specs.declared.Read.the-variants.{Order}
-use Rattle.capture.specs.definitions.Capture.{readAt, frameNumber}
-use Rattle.bench.specs.definitions.Run.{State, stepRefusal}
+use Rattle.capture.specs.definitions.Capture.{readAt, moreThanOne, more, frameNumber}
+use Rattle.bench.specs.declared.Run.{Run}
+use Rattle.bench.specs.definitions.Run.{isStopped, stepRefusal}
 use Rattle.bench.specs.definitions.Walk.{examined, followed}
 use Rattle.report.specs.definitions.Report.{text}
 use Rattle.demands.specs.definitions.Verdict.{Measured, measuredRun, flaggedWords, Stepwise, Examination, Line, Arrived}
@@ -45,8 +46,8 @@ MeasuredOnce =
 abbrev pub ExaminationsExist : Type 0
 ExaminationsExist =
     (s : List ℕ)
-    → Stepwise s (examined s .run)
-    × ((buffer : List ℕ) → length (text (examined s .run)) ≤ length buffer → (report : List ℕ) × (e : Examination s report) × (e .buffer ≡ buffer))
+    → Stepwise s (examined s)
+    × ((buffer : List ℕ) → length (text (examined s)) ≤ length buffer → (report : List ℕ) × (e : Examination s report) × (e .buffer ≡ buffer))
 
 -- every capture that begins with an order is one of these
 abbrev pub ArrivedAlways : Type 0
@@ -74,12 +75,16 @@ pub record NeverPass : Type 0 where
 abbrev pub AllCounted : Type 0
 AllCounted =
     (s report : List ℕ) → AllBytes s → Examination s report → Line "verdict PASS" report
-    → (m : Measured s) × (examined s .run ≡ measuredRun m) × (report ≡ text (measuredRun m)) × (total (measuredRun m .account .words) ≡ 384 * m .asked)
+    → (m : Measured s) × (examined s ≡ measuredRun m) × (report ≡ text (measuredRun m)) × (total (measuredRun m .account .words) ≡ 384 * m .asked)
 
 -- and whatever the verdict, the report shows 384 words for each frame accepted
 abbrev pub AlwaysCounted : Type 0
-AlwaysCounted = (s : List ℕ) → total (examined s .run .account .words) ≡ 384 * examined s .run .account .accepted
+AlwaysCounted = (s : List ℕ) → total (examined s .account .words) ≡ 384 * examined s .account .accepted
 
--- the numbers by which a record stops a run: 6 to 11. 12 never comes, since a frame that was received brings its 384 words
+-- the numbers by which a record stops a run: 6 to 11, and 22, which is given exactly where a record stands in the bytes and more behind it. 12 never comes,
+-- since a frame that was received brings its 384 words
 abbrev pub StepNumbers : Type 0
-StepNumbers = (st : State) (s : List ℕ) → (stepRefusal st s ≡ 0) ⊎ ((6 ≤ stepRefusal st s) × (stepRefusal st s ≤ 11))
+StepNumbers =
+    (r : Run) (s : List ℕ)
+    → ((stepRefusal r s ≡ 0) ⊎ (((6 ≤ stepRefusal r s) × (stepRefusal r s ≤ 11)) ⊎ (stepRefusal r s ≡ moreThanOne)))
+    × (isStopped (r .phase) ≡ false → (stepRefusal r s ≡ moreThanOne) ↔ (more (readAt s 0) (length s) ≡ true))

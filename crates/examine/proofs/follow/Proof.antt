@@ -1,54 +1,71 @@
 -- `examine::follow` meets its contract and ends: each record uses up some of what the limits on accepted and missing frames leave.
 -- Assumes nothing.
-use mathlib.Core.Path.{_≡_, refl, sym}
+use mathlib.Core.Path.{_≡_, refl, sym, ap, _∙_, subst}
+use mathlib.Core.Bool.{Bool, true, false}
 use borrow.Author.Needs.{needs}
 use lib.ListN.{length}
+use mir.Syntax.{w64}
+use mir.Val.{toZ, ofZ}
 use Rattle.capture.specs.definitions.Capture.{layout}
 use Rattle.bench.proofs.Remaining.{remainingOf}
-use Rattle.examine.proofs.Reading.{Reading, answers, answers-failed, reading-starts, reading-goes, reading-less}
+use Rattle.examine.specs.definitions.Answer.{negative, NoMore}
+use Rattle.examine.proofs.Buffer.{none-yet}
+use Rattle.examine.proofs.Reading.{Reading, answers-failed, answers-ended, answers-stopped, reading-starts, reading-goes, reading-less}
 use Rattle.examine.proofs.follow.Statement.{statement}
 use Rattle.examine.proofs.follow.Tie as tie
 
 abbrev Inv-loop : tie.InvT-loop
-Inv-loop fd store₀ buffer₀ run₀ going₀ store buffer run going = Reading (record { run = run; store = store }) going × (length buffer ≡ layout .frameBytes)
+Inv-loop fd buffer₀ run₀ answer₀ going₀ buffer run answer going = Reading run going × (length buffer ≡ layout .frameBytes) × (negative (toZ w64 answer) ≡ false)
 
 abbrev μ-loop : tie.MeasureT-loop
-μ-loop fd store₀ buffer₀ run₀ going₀ store buffer run going = remainingOf run
+μ-loop fd buffer₀ run₀ answer₀ going₀ buffer run answer going = remainingOf run
 
 loop-holds : tie.Need-loop-holds Inv-loop μ-loop
-loop-holds c = (reading-starts _ (c .begun .ensures), refl)
+loop-holds c = (reading-starts _ (c .begun .ensures), refl, refl)
 
-slice-aggregate-next-piece : tie.Need-slice-aggregate-next-piece Inv-loop μ-loop
-slice-aggregate-next-piece c = sym (c .before .before .loop .inv .1)
+-- the answer as it was told
+same : (c : tie.After-struct-told Inv-loop μ-loop) → toZ w64 (ofZ w64 (c .before .before .next-piece .result .answer))
+    ≡ c .before .before .next-piece .result .answer
+same c = search needs
+
+-- whether it is below 0
+below : (c : tie.After-struct-told Inv-loop μ-loop) (b : Bool) → c .before .before .next-piece .result .failed ≡ b
+    → negative (toZ w64 (ofZ w64 (c .before .before .next-piece .result .answer))) ≡ b
+below c b e = ap negative (same c) ∙ sym (c .before .before .next-piece .ensures .3) ∙ e
 
 returns : tie.Need-returns Inv-loop μ-loop
-returns c = answers-failed _ _ (c .before .before .before .before .before .before .loop .inv .0) _ (c .broken-off .ensures)
+returns c = answers-failed _ _ (c .before .before .before .before .before .before .before .loop .inv .0) _ _ (c .broken-off .ensures) (below
+    (c .before .before) true (c .before .if1 .taken))
 
 returns-2 : tie.Need-returns-2 Inv-loop μ-loop
-returns-2 c = answers _ _ (c .before .before .before .before .before .before .before .loop .inv .0) _ (c .to-the-end .ensures)
+returns-2 c =
+    answers-ended _ _ (c .before .before .before .before .before .before .before .before .loop .inv .0) _ _ (c .to-the-end .ensures) (below
+    (c .before .before .before) false (c .before .before .if1 .left))
+    (subst NoMore (sym (same (c .before .before .before))) (c .before .before .before .before .before .next-piece .ensures .4 (none-yet _ _
+    (c .before .if2 .taken))))
 
+-- a piece that came, and the step over it
 loop-less : tie.Need-loop-less Inv-loop μ-loop
 loop-less c =
+    let piece = c .before .before .before .before .before .before .before .before .next-piece in
     reading-less _ _ (c .before .before .before .before .before .before .before .before .before .before .before .loop .inv .0)
-    (c .before .before .before .before .before .before .before .before .before .before .loop-test .taken)
-    (c .before .before .before .before .before .before .before .before .next-piece .last .1 .0)
-    (c .before .before .before .before .before .before .before .before .next-piece .result .end) (search needs) (search needs)
-    (c .before .before .before .before .before .before .before .before .next-piece .ensures .2) _ (c .before .step .ensures .1) (c .before .step .ensures .0)
+    (c .before .before .before .before .before .before .before .before .before .before .loop-test .taken) (piece .last .1 .0) (piece .result .end)
+    (search needs) (search needs)
+    (piece .ensures .2) _ (c .before .step .ensures .1) (c .before .step .ensures .0)
 
 loop-again : tie.Need-loop-again Inv-loop μ-loop
-loop-again c = (
-  reading-goes _ _ (c .before .before .before .before .before .before .before .before .before .before .before .loop .inv .0)
-      (c .before .before .before .before .before .before .before .before .before .before .loop-test .taken)
-      (c .before .before .before .before .before .before .before .before .next-piece .last .1 .0)
-      (c .before .before .before .before .before .before .before .before .next-piece .result .end) (search needs) (search needs)
-      (c .before .before .before .before .before .before .before .before .next-piece .ensures .2) _ (c .before .step .ensures .1) (c .before .step .ensures .0)
-      _
-      (c .is-stopped .ensures),
-  c .before .before .before .before .before .before .before .before .next-piece .ensures .0,
-)
+loop-again c =
+    let piece = c .before .before .before .before .before .before .before .before .next-piece in (
+      reading-goes _ _ (c .before .before .before .before .before .before .before .before .before .before .before .loop .inv .0)
+          (c .before .before .before .before .before .before .before .before .before .before .loop-test .taken) (piece .last .1 .0) (piece .result .end)
+          (search needs) (search needs)
+          (piece .ensures .2) _ (c .before .step .ensures .1) (c .before .step .ensures .0) _ (c .is-stopped .ensures),
+      piece .ensures .0,
+      below (c .before .before .before .before .before .before) false (c .before .before .before .before .before .if1 .left),
+    )
 
 returns-3 : tie.Need-returns-3 Inv-loop μ-loop
-returns-3 c = answers _ _ (c .before .before .loop .inv .0) _ (c .to-the-end2 .ensures)
+returns-3 c = answers-stopped _ _ (c .before .before .loop .inv .0) _ _ (c .to-the-end2 .ensures) (c .before .before .loop .inv .2) (search needs)
 
 pub follow-spec : {M : Type 1} → statement M
 follow-spec =
@@ -58,7 +75,7 @@ follow-spec =
     μ-loop
     (λ c κs. search needs)
     loop-holds
-    slice-aggregate-next-piece
+    (λ c. sym (c .before .before .loop .inv .1))
     (λ c κs. search needs)
     (λ c κs. search needs)
     returns

@@ -13,9 +13,13 @@ use Rattle.symbols.specs.definitions.Frame.{wordsOf}
 use Rattle.pilots.specs.definitions.Pilots.{locks}
 use Rattle.framing.specs.definitions.Call.{unless, after}
 
--- the interleaved lanes that a frame brings: the information of what each of its words decodes to
+-- the words that a frame brings: what each of them decodes to
+abbrev pub receivedWords : List ℕ → List ℕ
+receivedWords f = mendedFrame (wordsOf f)
+
+-- the interleaved lanes that a frame brings: the information of these
 unfoldable pub broughtLanes : List ℕ → List ℕ
-broughtLanes f = wordLanes (mendedFrame (wordsOf f))
+broughtLanes f = wordLanes (receivedWords f)
 
 -- the lanes received: those deinterleaved and permuted back
 abbrev pub receivedLanes : Places → List ℕ → List ℕ → List ℕ
@@ -28,6 +32,16 @@ receivedStore f s = deinterleavedStore (broughtLanes f) s
 -- the flag bytes, that of word k of lane p at place 32 k + p
 unfoldable pub receivedFlags : List ℕ → List ℕ
 receivedFlags f = flagsOf (wordsOf f)
+
+-- 1, then 5, no lock; 0 is done
+unfoldable pub wordsNumber : List ℕ → ℕ
+wordsNumber f = unless 6144 f 1 (cond (locks f 0) 0 5)
+
+-- a call that receives the words alone, with the symbols f, words w and flags g to be written: the number answered, the words and the flags at exit
+pub record ReceivesWords (f w g : List ℕ) (r : ℕ) (w′ g′ : List ℕ) : Type 0 where
+  pub number : r ≡ wordsNumber f
+  pub words : w′ ≡ after (wordsNumber f) (receivedWords f) w
+  pub flags : g′ ≡ after (wordsNumber f) (receivedFlags f) g
 
 -- 1, 2, 3, 4, then 5, no lock, lowest first; 0 is done
 unfoldable pub receiveNumber : List ℕ → List ℕ → List ℕ → List ℕ → ℕ

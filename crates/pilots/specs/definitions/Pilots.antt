@@ -2,7 +2,7 @@
 -- Assumes nothing.
 use mathlib.Core.Bool.{Bool, not, _&&_}
 use mathlib.Core.List.{List}
-use Prim.Native.Nat.{ℕ, zero, suc, _+_, _*_, _/_, _%_, _^_}
+use Prim.Native.Nat.{ℕ, zero, suc, _+_, _*_, _-_, _/_, _%_, _^_}
 use lib.ListN.{length, getD}
 use lib.Dec.{eqb, ltb}
 use Rattle.bits.specs.definitions.Bits.{count}
@@ -24,6 +24,10 @@ labelsOf s k = leaves s (2 * k) * 8 + leaves s (2 * k + 1) * 2
 -- pilot k as table 4 has it: X by the seed 175 (hex), Y by the seed 03D
 unfoldable pub pilotOf : ℕ → ℕ
 pilotOf k = labelsOf 0x175 k * 16 + labelsOf 0x03D k
+
+-- the label of pilot k in tributary t (XI, XQ, YI, YQ), two bits each, XI on top
+unfoldable pub pilotLabel : ℕ → ℕ → ℕ
+pilotLabel k t = getD pilots k 0 / 4 ^ (3 - t) % 4
 
 -- pilot i is met in the string s from offset o on: symbol o + 64 i is there and has the pilot's byte
 unfoldable pub met : List ℕ → ℕ → ℕ → Bool

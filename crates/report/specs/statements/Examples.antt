@@ -15,13 +15,13 @@ use Rattle.report.specs.definitions.Report.{ascii, decimal, text}
 
 -- 01's lone order: start 0, asked 1, allowed 0
 abbrev pub LoneOrder : Type 0
-LoneOrder = text (examined loneOrder .run) ≡ ascii "asked 1\naccepted 0\nmissing 0\nclean 0\none 0\ntwo 0\nflagged 0\nverdict NOT MEASURED\n"
+LoneOrder = text (examined loneOrder) ≡ ascii "asked 1\naccepted 0\nmissing 0\nclean 0\none 0\ntwo 0\nflagged 0\nverdict NOT MEASURED\n"
 
 -- with no order first every number prints 0
 abbrev pub NoOrder : Type 0
 NoOrder =
     (s : List ℕ) → ((start asked allowed next : ℕ) → readAt s 0 ≢ Order start asked allowed next)
-    → text (examined s .run) ≡ ascii "asked 0\naccepted 0\nmissing 0\nclean 0\none 0\ntwo 0\nflagged 0\nverdict NOT MEASURED\n"
+    → text (examined s) ≡ ascii "asked 0\naccepted 0\nmissing 0\nclean 0\none 0\ntwo 0\nflagged 0\nverdict NOT MEASURED\n"
 
 -- a number in decimal reads as itself, digit by digit, and no zero stands in front of it; 0 is the digit 0
 abbrev pub DecimalReads : Type 0

@@ -8,12 +8,12 @@ use lib.Dec.{eqb}
 use Rattle.bits.specs.definitions.Bits.{tabulate, number, bitOf, bitAt}
 use Rattle.bits.specs.definitions.Words.{wordAt, rowOf}
 use Rattle.shuffle.specs.definitions.Shuffle.{place, unplace}
-use Rattle.symbols.specs.definitions.Mapping.{laneOf, upper, lower, payloadAt, symbolOf, bitIn}
+use Rattle.symbols.specs.definitions.Mapping.{laneOf, placeOf, payloadAt, symbolOf, bitIn}
 use Rattle.pilots.specs.definitions.Table5.{pilots}
 
--- bit i of symbol l of word k of all lanes, of a row of words: of its tributary's lane, the bit that stands at the place of the upper or the lower bit
+-- bit i of symbol l of word k of all lanes, of a row of words: of its tributary's lane, the bit that stands at the place that it takes
 unfoldable pub carriedBit : List ℕ → ℕ → ℕ → ℕ → ℕ
-carriedBit s k l i = bitOf 126 (wordAt s (32 * k + laneOf l (i / 2))) (unplace (laneOf l (i / 2)) (cond (eqb (i % 2) 0) (upper l) (lower l)))
+carriedBit s k l i = bitOf 126 (wordAt s (32 * k + laneOf l (i / 2))) (unplace (laneOf l (i / 2)) (placeOf l i))
 
 -- payload symbol m: two bits of each of four words, XI on top
 unfoldable pub payload : List ℕ → ℕ → ℕ

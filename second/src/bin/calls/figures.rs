@@ -116,7 +116,7 @@ fn numbers<W: Write>(calls: &mut Calls<W>, random: &mut Xorshift) -> io::Result<
             assert_eq!(calls.account_lose(&mut account, start)?, 10);
         }
     }
-    let (mut run, mut store) = (Kept::new(), [0; STORE_BYTES]);
+    let mut run = Kept::new();
     let mut sender = [0; STORE_BYTES];
     let [first, second]: [[u8; FRAME_SYMBOLS]; 2] = [(); 2].map(|()| sent(random, &mut sender));
     for record in [
@@ -124,11 +124,11 @@ fn numbers<W: Write>(calls: &mut Calls<W>, random: &mut Xorshift) -> io::Result<
         frame_record(last, &first),
         frame_record(0, &second),
     ] {
-        assert_eq!(calls.run_step(&mut run, &mut store, &record)?, 0);
+        assert_eq!(calls.run_step(&mut run, &record)?, 0);
     }
     assert_eq!((run.phase, calls.run_verdict(&run)?), (GOING, PASS));
     let twice = frame_record(0, &second);
-    assert_eq!(calls.run_step(&mut run, &mut store, &twice)?, 10);
+    assert_eq!(calls.run_step(&mut run, &twice)?, 10);
     assert_eq!(run.phase, STOPPED);
     Ok(())
 }

@@ -3,10 +3,11 @@
 //! out. Seeded, so that the same count and seed give the same bytes.
 //!
 //! What is written whatever the count: 01's run figures with every pair and triple of flips, every
-//! refusal and those that can occur together, entries, records, places, runs and reports. Then so
-//! many frames of each direction.
+//! refusal and those that can occur together, entries, records, places, runs, reports and whole
+//! captures. Then so many frames of each direction.
 
 mod accounts;
+mod examined;
 mod figures;
 mod frames;
 mod lengths;
@@ -35,6 +36,7 @@ fn write_calls(count: u64, seed: u64) -> io::Result<()> {
     records::write(calls, random)?;
     runs::write(calls, random)?;
     reports::write(calls, random)?;
+    examined::write(calls, random)?;
     frames::write(calls, random, count)?;
     calls.end()
 }

@@ -5,6 +5,7 @@ use second::account::{enter_flags, lose, numbers, opened, verdict, Account};
 use second::capture::{read, wanted, Record};
 use second::kept::Kept;
 use second::receive::receive;
+use second::run::{examine, examine_verdict};
 use second::send::send;
 use std::io::{self, IsTerminal, Write};
 use std::time::{Duration, Instant};
@@ -23,6 +24,8 @@ const RUN_STEP: u8 = 9;
 const RUN_STOP: u8 = 10;
 const RUN_VERDICT: u8 = 11;
 const RUN_REPORT: u8 = 12;
+const EXAMINE: u8 = 13;
+const EXAMINE_VERDICT: u8 = 14;
 
 pub struct Calls<W: Write> {
     out: W,
@@ -222,17 +225,15 @@ impl<W: Write> Calls<W> {
         self.run(run)
     }
 
-    pub fn run_step(&mut self, run: &mut Kept, store: &mut [u8], piece: &[u8]) -> io::Result<u32> {
+    pub fn run_step(&mut self, run: &mut Kept, piece: &[u8]) -> io::Result<u32> {
         self.begin(RUN_STEP)?;
         self.run(run)?;
-        self.buffer(store)?;
         self.buffer(piece)?;
         let accepted = run.account.accepted;
-        let number = run.step(store, piece);
+        let number = run.step(piece);
         self.frames += u64::from(run.account.accepted > accepted);
         self.u32(number)?;
         self.run(run)?;
-        self.out.write_all(store)?;
         Ok(number)
     }
 
@@ -259,5 +260,23 @@ impl<W: Write> Calls<W> {
         self.u64(length as u64)?;
         self.out.write_all(text)?;
         Ok(length)
+    }
+
+    pub fn examine(&mut self, capture: &[u8], text: &mut [u8]) -> io::Result<usize> {
+        self.begin(EXAMINE)?;
+        self.buffer(capture)?;
+        self.buffer(text)?;
+        let length = examine(capture, text);
+        self.u64(length as u64)?;
+        self.out.write_all(text)?;
+        Ok(length)
+    }
+
+    pub fn examine_verdict(&mut self, capture: &[u8]) -> io::Result<u32> {
+        self.begin(EXAMINE_VERDICT)?;
+        self.buffer(capture)?;
+        let number = examine_verdict(capture);
+        self.u32(number)?;
+        Ok(number)
     }
 }

@@ -1,9 +1,9 @@
-//! Steps of runs: from every phase over every kind of record, with every store, at every limit, by
-//! every refusal, and long runs with their verdict and report after every step.
+//! Steps of runs: from every phase over every kind of record, over records with more behind them and
+//! captures cut anywhere, at every limit, by every refusal, and long runs with their verdict and
+//! report after every step.
 
 use crate::accounts::{edges, odd_account, AHEAD, MOST, STARTS};
 use crate::frames::{damage_pilots, damage_words, flip_any, sent, Symbols};
-use crate::lengths::wrong_lengths;
 use crate::out::Calls;
 use crate::records::{order, unlawful};
 use crate::reports::ROOM;
@@ -11,7 +11,9 @@ use crate::verdicts::any;
 use second::account::{
     account, count_flags, enter_flags, lose, Account, FAIL, LATE, NOT_MEASURED, PASS,
 };
-use second::capture::{frame_record, read, FRAME, KIND_PLACE, VERSION_PLACE};
+use second::capture::{
+    frame_record, read, FRAME, FRAME_RECORD, KIND_PLACE, MORE_THAN_ONE, ORDER_RECORD, VERSION_PLACE,
+};
 use second::kept::{Kept, GOING, STOPPED, UNORDERED};
 use second::lanes::{LANES_BYTES, STORE_BYTES};
 use second::receive::receive;
@@ -38,64 +40,55 @@ pub const PHASES: [u32; 13] = [
 ];
 
 /// What a step must answer, by the calls that tell a record's refusal and that of its entry.
-fn right_number(run: &Kept, store: &[u8], piece: &[u8]) -> u32 {
-    if store.len() != STORE_BYTES {
-        return 2;
-    }
+fn right_number(run: &Kept, piece: &[u8]) -> u32 {
     if run.phase > GOING {
         return 0;
     }
     let record = read(piece, 0);
-    if run.phase == UNORDERED || record.kind != FRAME {
+    if record.refusal != 0 {
         return record.refusal;
+    }
+    if record.next != piece.len() {
+        return MORE_THAN_ONE;
+    }
+    if run.phase == UNORDERED || record.kind != FRAME {
+        return 0;
     }
     let symbols = &piece[record.symbols..record.next];
     let mut lanes = [0; LANES_BYTES];
     let mut flags = [0; FRAME_WORDS];
-    let (refusal, _) = match receive(symbols, &mut store.to_vec(), &mut lanes, &mut flags) {
+    let (refusal, _) = match receive(symbols, &mut [0; STORE_BYTES], &mut lanes, &mut flags) {
         0 => enter_flags(run.account, record.number, &flags),
         _ => lose(run.account, record.number),
     };
     refusal
 }
 
-/// A step; a refusal leaves the run stopped or, by 2, as it was, and nothing else is changed.
-fn step<W: Write>(
-    calls: &mut Calls<W>,
-    run: &mut Kept,
-    store: &mut [u8],
-    piece: &[u8],
-) -> io::Result<u32> {
-    let (before, store_before) = (*run, store.to_vec());
-    let number = calls.run_step(run, store, piece)?;
-    assert_eq!(number, right_number(&before, &store_before, piece));
-    let phase = match number {
-        0 => run.phase,
-        2 => before.phase,
-        _ => STOPPED,
-    };
-    assert_eq!(run.phase, phase);
-    if number != 0 {
-        assert!(*run == Kept { phase, ..before } && *store == store_before);
+/// A step; a refusal leaves the run stopped, and nothing else is changed.
+pub fn step<W: Write>(calls: &mut Calls<W>, run: &mut Kept, piece: &[u8]) -> io::Result<u32> {
+    let before = *run;
+    let number = calls.run_step(run, piece)?;
+    assert_eq!(number, right_number(&before, piece));
+    if number != 0 || before.phase > GOING {
+        let phase = STOPPED;
+        assert_eq!(*run, Kept { phase, ..before });
     }
     Ok(number)
 }
 
-/// A step from this run and any store, which must answer this number.
+/// A step from this run, which must answer this number.
 fn must<W: Write>(
     calls: &mut Calls<W>,
-    random: &mut Xorshift,
     number: u32,
     before: &Kept,
     piece: &[u8],
 ) -> io::Result<Kept> {
     let mut run = *before;
-    let mut store = random.bytes(STORE_BYTES);
-    assert_eq!(step(calls, &mut run, &mut store, piece)?, number);
+    assert_eq!(step(calls, &mut run, piece)?, number);
     Ok(run)
 }
 
-/// The same from a run of any stopped phase, which answers 0, and with a store of a wrong length.
+/// The same from a run of any stopped phase, which answers 0.
 fn must_not<W: Write>(
     calls: &mut Calls<W>,
     random: &mut Xorshift,
@@ -103,13 +96,7 @@ fn must_not<W: Write>(
     piece: &[u8],
 ) -> io::Result<()> {
     let phase = random.pick(&PHASES[2..]);
-    must(calls, random, 0, &Kept { phase, ..*before }, piece)?;
-    let length = random.pick(&wrong_lengths(STORE_BYTES));
-    let mut store = random.bytes(length);
-    for phase in [before.phase, phase] {
-        let mut run = Kept { phase, ..*before };
-        assert_eq!(step(calls, &mut run, &mut store, piece)?, 2);
-    }
+    must(calls, 0, &Kept { phase, ..*before }, piece)?;
     Ok(())
 }
 
@@ -194,8 +181,7 @@ fn from_every_phase<W: Write>(calls: &mut Calls<W>, random: &mut Xorshift) -> io
         for before in [odd, Kept { account, ..odd }] {
             for piece in pieces(random, before.account.expected) {
                 let mut run = before;
-                let mut store = random.bytes(STORE_BYTES);
-                step(calls, &mut run, &mut store, &piece)?;
+                step(calls, &mut run, &piece)?;
                 assert!(run.phase <= STOPPED);
             }
             calls.run_open(&mut before.clone())?;
@@ -205,18 +191,87 @@ fn from_every_phase<W: Write>(calls: &mut Calls<W>, random: &mut Xorshift) -> io
     Ok(())
 }
 
-/// A store of a wrong length is told first, whatever else is wrong.
-fn with_every_store<W: Write>(calls: &mut Calls<W>, random: &mut Xorshift) -> io::Result<()> {
-    let good = damaged(random);
-    for length in wrong_lengths(STORE_BYTES) {
-        for phase in [UNORDERED, GOING, STOPPED, 77] {
-            let mut run = odd_run(random, phase);
-            let first = order(1, 2, 3);
-            let frame = frame_record(run.account.expected, &good);
-            for piece in [&[], &first[..], &first[..5], &[0; 4], &frame] {
-                let mut store = random.bytes(length);
-                assert_eq!(step(calls, &mut run, &mut store, piece)?, 2);
+/// Whole records with more behind them: another of either kind, the same again, one byte of every
+/// value, the beginning of a record, any bytes. By 22, whatever the record alone would have done.
+fn with_more_behind<W: Write>(calls: &mut Calls<W>, random: &mut Xorshift) -> io::Result<()> {
+    let (good, bad) = (damaged(random), lost(random));
+    for phase in [UNORDERED, GOING] {
+        for account in [small(random), account(9, MOST), odd_account(random)] {
+            let before = Kept {
+                account,
+                ..odd_run(random, phase)
+            };
+            let expected = account.expected;
+            let first = order(expected, any(random) as u32, any(random) as u32);
+            let next = frame_record(expected.wrapping_add(1), &good);
+            let mut records = vec![first.clone()];
+            for d in [0, 1, 1_000_001, LATE, u32::MAX] {
+                for symbols in [&good, &bad] {
+                    records.push(frame_record(expected.wrapping_add(d), symbols));
+                }
             }
+            for record in &records {
+                let noise = 1 + random.below(40) as usize;
+                let mut others = vec![
+                    vec![random.next_u64() as u8],
+                    random.bytes(noise),
+                    first.clone(),
+                    next.clone(),
+                    record.clone(),
+                    spoilt(record, VERSION_PLACE, 2),
+                    spoilt(record, KIND_PLACE, 2),
+                    record[..record.len() - 1].to_vec(),
+                ];
+                for cut in [1, 3, 4, 5, 10] {
+                    others.push(first[..cut].to_vec());
+                }
+                for more in others {
+                    let piece = [&record[..], &more].concat();
+                    let stopped = must(calls, MORE_THAN_ONE, &before, &piece)?;
+                    // What was refused as a whole is not taken up in parts.
+                    if random.below(8) == 0 {
+                        must(calls, 0, &stopped, record)?;
+                        must_not(calls, random, &before, &piece)?;
+                    }
+                }
+            }
+            for byte in 0..=255 {
+                let piece = [&first[..], &[byte]].concat();
+                must(calls, MORE_THAN_ONE, &before, &piece)?;
+            }
+        }
+    }
+    Ok(())
+}
+
+/// An order and two frames in three pieces, cut at their bounds and beside them: only where each
+/// piece is one record the run passes, and nowhere is a byte passed over.
+fn in_pieces<W: Write>(calls: &mut Calls<W>, random: &mut Xorshift) -> io::Result<()> {
+    let mut sender = [0; STORE_BYTES];
+    let mut capture = order(u32::MAX, 2, 0);
+    for number in [u32::MAX, 0] {
+        capture.extend(frame_record(number, &sent(random, &mut sender)));
+    }
+    let end = capture.len();
+    let bounds = [0, ORDER_RECORD, ORDER_RECORD + FRAME_RECORD, end];
+    let places: Vec<usize> = (0..=end)
+        .filter(|&place| bounds.iter().any(|bound| bound.abs_diff(place) < 3))
+        .chain([4, 10, ORDER_RECORD + 4, end - FRAME_RECORD / 2])
+        .collect();
+    for &a in &places {
+        for &b in places.iter().filter(|&&b| b >= a) {
+            let mut run = Kept::new();
+            let pieces = [&capture[..a], &capture[a..b], &capture[b..]];
+            let mut stopped = false;
+            for piece in pieces {
+                let number = step(calls, &mut run, piece)?;
+                assert!(number == 0 || !stopped);
+                stopped |= run.phase == STOPPED;
+            }
+            let whole = [a, b] == [bounds[1], bounds[2]];
+            assert_eq!(stopped, !whole);
+            let right = if whole { PASS } else { NOT_MEASURED };
+            assert_eq!(calls.run_verdict(&run)?, right);
         }
     }
     Ok(())
@@ -262,11 +317,15 @@ fn refused(random: &mut Xorshift) -> Vec<(u32, Vec<u8>)> {
             pieces.push((7, long[..kept.min(whole)].to_vec()));
         }
     }
-    // Behind a record that is whole there may be anything.
+    // Behind a head that is refused there may be anything, and whole records too: 22 comes last.
     for (number, piece) in pieces.clone() {
         if number > 6 && random.below(4) == 0 {
             let more = random.below(40) as usize;
-            pieces.push((number, [piece, random.bytes(more)].concat()));
+            pieces.push((number, [&piece[..], &random.bytes(more)].concat()));
+            pieces.push((number, [&piece[..], &first].concat()));
+        }
+        if number > 6 && random.below(16) == 0 {
+            pieces.push((number, [piece, frame.clone()].concat()));
         }
     }
     pieces
@@ -284,9 +343,9 @@ fn by_records<W: Write>(calls: &mut Calls<W>, random: &mut Xorshift) -> io::Resu
                 account,
                 ..odd_run(random, phase)
             };
-            let stopped = must(calls, random, number, &before, &piece)?;
+            let stopped = must(calls, number, &before, &piece)?;
             if random.below(4) == 0 {
-                must(calls, random, 0, &stopped, &piece)?;
+                must(calls, 0, &stopped, &piece)?;
                 must_not(calls, random, &before, &piece)?;
             }
         }
@@ -337,14 +396,14 @@ fn by_entries<W: Write>(calls: &mut Calls<W>, random: &mut Xorshift) -> io::Resu
                     (false, true) => 11,
                     (false, false) => 0,
                 };
-                let after = must(calls, random, number, &before, &record)?;
+                let after = must(calls, number, &before, &record)?;
                 if random.below(4) == 0 {
                     // Once more: late now where it was entered, and no more where it was refused.
                     let again = if number == 0 { 10 } else { 0 };
-                    must(calls, random, again, &after, &record)?;
+                    must(calls, again, &after, &record)?;
                     must_not(calls, random, &before, &record)?;
                     let phase = UNORDERED;
-                    let first = must(calls, random, 0, &Kept { phase, ..before }, &record)?;
+                    let first = must(calls, 0, &Kept { phase, ..before }, &record)?;
                     assert_eq!(first.phase, STOPPED);
                 }
             }
@@ -363,7 +422,7 @@ fn second_orders<W: Write>(calls: &mut Calls<W>, random: &mut Xorshift) -> io::R
             };
             let start = account.expected.wrapping_add(d);
             let record = order(start, before.asked, before.allowed);
-            let after = must(calls, random, 0, &before, &record)?;
+            let after = must(calls, 0, &before, &record)?;
             assert_eq!(after.phase, STOPPED);
             must_not(calls, random, &before, &record)?;
         }
@@ -385,9 +444,8 @@ fn at_limits<W: Write>(calls: &mut Calls<W>, random: &mut Xorshift) -> io::Resul
                     account: account(9, numbers),
                     ..odd_run(random, GOING)
                 };
-                let mut store = random.bytes(STORE_BYTES);
                 let record = frame_record(9 + d as u32, symbols);
-                step(calls, &mut run, &mut store, &record)?;
+                step(calls, &mut run, &record)?;
             }
         }
         for start in STARTS {
@@ -396,9 +454,8 @@ fn at_limits<W: Write>(calls: &mut Calls<W>, random: &mut Xorshift) -> io::Resul
                     account: account(start, [7; 6]),
                     ..odd_run(random, GOING)
                 };
-                let mut store = random.bytes(STORE_BYTES);
                 let record = frame_record(start.wrapping_add(d), symbols);
-                step(calls, &mut run, &mut store, &record)?;
+                step(calls, &mut run, &record)?;
             }
         }
     }
@@ -409,23 +466,19 @@ fn at_limits<W: Write>(calls: &mut Calls<W>, random: &mut Xorshift) -> io::Resul
 struct Host<'a, W: Write> {
     calls: &'a mut Calls<W>,
     run: Kept,
-    store: Vec<u8>,
     sender: [u8; STORE_BYTES],
     /// What the last step answered.
     told: u32,
 }
 
 impl<'a, W: Write> Host<'a, W> {
-    /// From a store that only the first order clears.
     fn new(calls: &'a mut Calls<W>, random: &mut Xorshift) -> io::Result<Self> {
         let mut run = odd_run(random, GOING);
-        let mut store = random.bytes(STORE_BYTES);
         calls.run_open(&mut run)?;
-        step(calls, &mut run, &mut store, &[])?;
+        step(calls, &mut run, &[])?;
         Ok(Host {
             calls,
             run,
-            store,
             sender: [0; STORE_BYTES],
             told: 0,
         })
@@ -435,7 +488,7 @@ impl<'a, W: Write> Host<'a, W> {
     fn step(&mut self, random: &mut Xorshift, record: &[u8]) -> io::Result<u32> {
         let head = record.len().min(4);
         self.calls.wanted(&record[..head])?;
-        self.told = step(self.calls, &mut self.run, &mut self.store, record)?;
+        self.told = step(self.calls, &mut self.run, record)?;
         let mut text = random.bytes(ROOM);
         self.calls.run_report(&self.run, &mut text)?;
         self.calls.run_verdict(&self.run)
@@ -547,7 +600,8 @@ fn arbitrary<W: Write>(calls: &mut Calls<W>, random: &mut Xorshift) -> io::Resul
 
 pub fn write<W: Write>(calls: &mut Calls<W>, random: &mut Xorshift) -> io::Result<()> {
     from_every_phase(calls, random)?;
-    with_every_store(calls, random)?;
+    with_more_behind(calls, random)?;
+    in_pieces(calls, random)?;
     by_records(calls, random)?;
     by_entries(calls, random)?;
     second_orders(calls, random)?;
