@@ -4,21 +4,24 @@ use mathlib.Core.Path.{_≡_, refl, sym, ap, _∙_, subst}
 use mathlib.Core.Bool.{true}
 use mathlib.Core.Logic.{_⊎_, inl, inr}
 use mathlib.Core.List.{List}
-use Prim.Native.Nat.{ℕ, zero, suc, _<_, _≤_}
+use Prim.Native.Nat.{ℕ, zero, suc, _+_, _-_, _<_, _≤_}
 use native.Mathlib.Decide.{decLt}
 use native.Mathlib.Omega.{arith}
-use lib.ListN.{length}
+use lib.ListN.{length, drop}
+use borrow.Author.Tests.{lt-ltb, le-ltb}
 use Rattle.capture.specs.declared.Read.{Read}
-use Rattle.capture.specs.declared.Read.the-variants.{End}
-use Rattle.capture.specs.definitions.Capture.{readAt, nextOf}
+use Rattle.capture.specs.declared.Read.the-variants.{End, Refused, Order, Frame}
+use Rattle.capture.specs.definitions.Capture.{readAt, nextOf, shifted, wanted}
 use Rattle.capture.proofs.Cases.{at-end}
+use Rattle.capture.proofs.Local.{reads-from-here, wanted-reads, wanted-bounds}
+use Rattle.capture.proofs.One.{one-alone}
 use Rattle.bench.specs.declared.Run.{Run}
 use Rattle.bench.specs.declared.Phase.the-variants.{Stopped}
-use Rattle.bench.specs.definitions.Run.{begun, isStopped, cameAs}
-use Rattle.bench.specs.definitions.Walk.{examined, Reading}
+use Rattle.bench.specs.definitions.Run.{begun, isStopped, cameAs, stepped}
+use Rattle.bench.specs.definitions.Walk.{examined, bytesAt, Reading}
 use Rattle.bench.specs.statements.Walk.{ReaderWalks}
 use Rattle.bench.proofs.Stops.{is-stopped}
-use Rattle.bench.proofs.Walk.{Ahead, walk-starts, walk-ends, walk-goes, stays-stopped, walk-stops, came-stays, walked-stays, end}
+use Rattle.bench.proofs.Walk.{Ahead, walk-starts, walk-ends, walk-goes, stays-stopped, walk-stops, came-stays, walked-stays, end, came-here, step-piece}
 
 module _ (s : List ℕ) where
   -- what is read at a place, whatever it is, leaves the same ahead
@@ -34,25 +37,57 @@ module _ (s : List ℕ) where
           (length s, omega arith, walked-stays _ stop (length s) s (nextOf (readAt s i) i) ∙ is)
       go (no h) l = rw (sym (at-end s i (omega arith))) A
 
-  ahead-moved : (i : ℕ) (r : Run) → Ahead s i r → (read : Read) → read ≡ readAt s i → (j : ℕ) → j ≡ nextOf read i
-      → (x : Run) → x ≡ cameAs read r s → Ahead s j x
-  ahead-moved i r A read is j at x came =
-      subst (λ (y : Run). Ahead s j y) (sym (came ∙ ap (λ (z : Read). cameAs z r s) is))
-      (subst (λ (k : ℕ). Ahead s k (cameAs (readAt s i) r s)) (sym (at ∙ ap (λ (z : Read). nextOf z i) is)) (ahead-next i r A))
+  -- a step over the bytes of what stands at a place is what stands there
+  step-here : (i : ℕ) (r : Run) → stepped r (bytesAt s i (nextOf (readAt s i) i)) ≡ cameAs (readAt s i) r s
+  unfolding stepped shifted
+  step-here i r = go (readAt (drop i s) 0) refl
+    where
+      all-left : (x : Read) → readAt (drop i s) 0 ≡ x → nextOf x 0 ≡ 0 → nextOf (readAt s i) i ≡ i
+          → stepped r (bytesAt s i (nextOf (readAt s i) i)) ≡ cameAs (readAt s i) r s
+      all-left x e z n =
+          rw (n, le-ltb i i (omega arith))
+          (ap (λ (y : Read). cameAs y r (drop i s)) (one-alone (drop i s) (inl (ap (λ (y : Read). nextOf y 0) e ∙ z))) ∙ came-here r s i)
+
+      one : (x : Read) → readAt (drop i s) 0 ≡ x → 0 < wanted (drop i s) → nextOf (readAt s i) i ≡ i + wanted (drop i s)
+          → stepped r (bytesAt s i (nextOf (readAt s i) i)) ≡ cameAs (readAt s i) r s
+      one x e w n =
+          let m : nextOf (readAt s i) i - i ≡ wanted (drop i s) = omega arith in
+          rw (lt-ltb i (nextOf (readAt s i) i) (omega arith), m) (step-piece r (drop i s) ∙ came-here r s i)
+
+      at : (x : Read) → readAt (drop i s) 0 ≡ x → readAt s i ≡ shifted i x
+      at x e = reads-from-here s i ∙ ap (shifted i) e
+
+      go : (x : Read) → readAt (drop i s) 0 ≡ x → stepped r (bytesAt s i (nextOf (readAt s i) i)) ≡ cameAs (readAt s i) r s
+      go End e = all-left End e refl (ap (λ (y : Read). nextOf y i) (at End e))
+      go (Refused refusal) e = all-left (Refused refusal) e refl (ap (λ (y : Read). nextOf y i) (at (Refused refusal) e))
+      go (Order start asked allowed next) e =
+          one (Order start asked allowed next) e (let w = wanted-bounds (drop i s) .0 in omega arith)
+          (ap (λ (y : Read). nextOf y i) (at (Order start asked allowed next) e)
+          ∙ ap (λ (n : ℕ). i + n) (wanted-reads (drop i s) .1 start asked allowed next e))
+      go (Frame number from next) e =
+          one (Frame number from next) e (let w = wanted-bounds (drop i s) .0 in omega arith)
+          (ap (λ (y : Read). nextOf y i) (at (Frame number from next) e) ∙ ap (λ (n : ℕ). i + n) (wanted-reads (drop i s) .2 number from next e .0))
 
   -- a stopped run is the whole run
   stopped-ahead : (i : ℕ) (r : Run) → Ahead s i r → isStopped (r .phase) ≡ true → r ≡ examined s
   stopped-ahead i r (n, e, w) h = sym (walked-stays r (is-stopped (r .phase) h) n s i) ∙ w
 
+  ahead-moved : (i : ℕ) (r : Run) → Ahead s i r → (read : Read) → read ≡ readAt s i → (j : ℕ) → j ≡ nextOf read i
+      → (x : Run) → x ≡ stepped r (bytesAt s i j) → Ahead s j x
+  ahead-moved i r A read is j at x step =
+      let to : j ≡ nextOf (readAt s i) i = at ∙ ap (λ (z : Read). nextOf z i) is in
+      subst (λ (y : Run). Ahead s j y) (sym (step ∙ ap (λ (k : ℕ). stepped r (bytesAt s i k)) to ∙ step-here i r))
+      (subst (λ (k : ℕ). Ahead s k (cameAs (readAt s i) r s)) (sym to) (ahead-next i r A))
+
   -- where the walk stands after so many calls
   so-far : (n : ℕ) (places : ℕ → ℕ) (reads : ℕ → Read) (runs : ℕ → Run) → Ahead s (places 0) (runs 0)
       → ((k : ℕ) → k < n → reads k ≡ readAt s (places k)) → ((k : ℕ) → k < n → places (suc k) ≡ nextOf (reads k) (places k))
-      → ((k : ℕ) → k < n → runs (suc k) ≡ cameAs (reads k) (runs k) s) → Ahead s (places n) (runs n)
-  so-far zero places reads runs A next moved came = A
-  so-far (suc n) places reads runs A next moved came =
+      → ((k : ℕ) → k < n → runs (suc k) ≡ stepped (runs k) (bytesAt s (places k) (places (suc k)))) → Ahead s (places n) (runs n)
+  so-far zero places reads runs A next moved step = A
+  so-far (suc n) places reads runs A next moved step =
       ahead-moved (places n) (runs n)
-      (so-far n places reads runs A (λ k h. next k (omega arith)) (λ k h. moved k (omega arith)) (λ k h. came k (omega arith)))
-      (reads n) (next n (omega arith)) (places (suc n)) (moved n (omega arith)) (runs (suc n)) (came n (omega arith))
+      (so-far n places reads runs A (λ k h. next k (omega arith)) (λ k h. moved k (omega arith)) (λ k h. step k (omega arith)))
+      (reads n) (next n (omega arith)) (places (suc n)) (moved n (omega arith)) (runs (suc n)) (step n (omega arith))
 
   starts : (i : ℕ) (r : Run) → i ≡ 0 → r ≡ begun → Ahead s i r
   starts i r z e = subst (λ (k : ℕ). Ahead s k r) (sym z) (walk-starts s r e)
@@ -61,7 +96,7 @@ module _ (s : List ℕ) where
   comes-to r R = R .last ∙ go (R .enough)
     where
       here : Ahead s (R .places (R .calls)) (R .runs (R .calls))
-      here = so-far (R .calls) (R .places) (R .reads) (R .runs) (starts _ _ (R .begin .0) (R .begin .1)) (R .next) (R .moved) (R .came)
+      here = so-far (R .calls) (R .places) (R .reads) (R .runs) (starts _ _ (R .begin .0) (R .begin .1)) (R .next) (R .moved) (R .step)
 
       go : (readAt s (R .places (R .calls)) ≡ End) ⊎ (isStopped (R .runs (R .calls) .phase) ≡ true) → R .runs (R .calls) ≡ examined s
       go (inl e) = walk-ends s _ _ here (end s _ e)
@@ -78,7 +113,8 @@ module _ (s : List ℕ) where
 
   ahead-at : (k : ℕ) → Ahead s (placeAt k) (runAt k)
   unfolding placeAt runAt
-  ahead-at k = so-far k placeAt (λ j. readAt s (placeAt j)) runAt (walk-starts s begun refl) (λ j h. refl) (λ j h. refl) (λ j h. refl)
+  ahead-at k = so-far k placeAt (λ j. readAt s (placeAt j)) runAt (walk-starts s begun refl) (λ j h. refl) (λ j h. refl)
+      (λ j h. sym (step-here (placeAt j) (runAt j)))
 
   -- each call moves the place, or stops the run, or finds the end
   moves : (k : ℕ) → (k ≤ placeAt k) ⊎ ((length s ≤ placeAt k) ⊎ (runAt k .phase ≡ Stopped))
@@ -108,7 +144,7 @@ module _ (s : List ℕ) where
         begin = (refl, refl);
         next = λ k h. refl;
         moved = λ k h. refl;
-        came = λ k h. refl;
+        step = λ k h. sym (step-here (placeAt k) (runAt k));
         enough = go (moves (length s));
         last = refl;
       }

@@ -91,7 +91,7 @@ came-shifted (Order start asked allowed next) r s i = refl
 came-shifted (Frame number from next) r s i = ap (frameCame (r .phase) r number) (sym (symbols-here s i from))
 
 -- what stands at the beginning of all that is left from a place on is what stands there
-came-here : (r : Run) (s : List ℕ) (i : ℕ) → cameAs (readAt (drop i s) 0) r (drop i s) ≡ cameAs (readAt s i) r s
+pub came-here : (r : Run) (s : List ℕ) (i : ℕ) → cameAs (readAt (drop i s) 0) r (drop i s) ≡ cameAs (readAt s i) r s
 came-here r s i = came-shifted (readAt (drop i s) 0) r s i ∙ ap (λ (x : Read). cameAs x r s) (sym (reads-from-here s i))
 
 -- a step with the bytes wanted, or with what is left, is what stands at the beginning of them all

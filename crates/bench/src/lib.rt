@@ -202,8 +202,8 @@ fn came(run: Run, read: capture::Read, bytes: &[u8]) -> Stepped
     }
 }
 
-// One record's bytes alone, and what they change: what is no single record only stops the run, and a run that is stopped changes no more. The number is the
-// refusal's.
+// One record's bytes alone, and what they change. No bytes change nothing; what else is no single record only stops the run, and a run that is stopped changes
+// no more. The number is the refusal's.
 pub fn step(run: Run, piece: &[u8]) -> Stepped
     ensures { λ r. ⌜ r ≡ record { refusal = stepRefusal run (now (piece .entry)); run = stepped run (now (piece .entry)) } ⌝ }
 {

@@ -24,8 +24,8 @@ use Rattle.report.specs.definitions.Report.{text}
 use Rattle.adderbloom.specs.declared.runs.Run.{Run}
 use Rattle.adderbloom.specs.declared.runs.Answer.{Answer}
 use Rattle.adderbloom.specs.definitions.Run.{phaseNumber, phaseOf, runOf, keptRun, stepAnswer}
-use Rattle.demands.specs.definitions.Verdict.{Measured, flaggedWords, Line}
-use Rattle.demands.specs.definitions.Host.{Due, Hosted}
+use Rattle.demands.specs.definitions.Verdict.{Line}
+use Rattle.demands.specs.definitions.Host.{VerdictDue, Hosted}
 use Rattle.demands.specs.statements.Host.{HostedRun, HostedVerdict, HostedReport, HostedExists, NothingDropped, StoppedVerdict, ExaminedVerdict}
 use Rattle.demands.specs.statements.Host.{ExaminedReport}
 use Rattle.demands.proofs.Verdict.{passes, fails, unmeasured, on-the-way, examination, stopped-unmeasured, stopped-says}
@@ -101,7 +101,7 @@ numbered b c e v means = (
 )
 
 -- the verdict of the capture's run, by its number, is the one that is due
-pub due : (s : List ℕ) (b : Bench) → AllBytes s → b ≡ examined s → Due s (verdictNumber (verdictOf b))
+pub due : (s : List ℕ) (b : Bench) → AllBytes s → b ≡ examined s → VerdictDue s (verdictNumber (verdictOf b))
 unfolding verdictNumber
 due s b B e = (numbered b (examined s) e Pass (passes s B), numbered b (examined s) e Fail (fails s B), numbered b (examined s) e NotMeasured (unmeasured s B))
 
@@ -121,22 +121,18 @@ examined-report s buffer l = examination s (examined s) refl buffer l
 
 pub nothing-dropped : NothingDropped
 unfolding verdictNumber
-nothing-dropped given r h = (run, λ B v. go B v run)
+nothing-dropped given r h = go (subst (λ (b : Bench). (isStopped (b .phase) ≡ true) ⊎ (b ≡ examined (joined given))) (sym is) (nothing-passed-over given))
   where
     is : runOf r ≡ through begun given
     is =
         ap runOf (h .last) ∙ so-far given (h .runs) (h .numbers) (h .opened) (length given) (omega arith) (h .step)
         ∙ ap (through begun) (take-length given)
 
-    run : (isStopped (runOf r .phase) ≡ true) ⊎ (runOf r ≡ examined (joined given))
-    run = subst (λ (b : Bench). (isStopped (b .phase) ≡ true) ⊎ (b ≡ examined (joined given))) (sym is) (nothing-passed-over given)
-
-    go : AllBytes (joined given) → verdictNumber (verdictOf (runOf r)) ≡ 1 → (isStopped (runOf r .phase) ≡ true) ⊎ (runOf r ≡ examined (joined given))
-        → (m : Measured (joined given)) × (flaggedWords m ≤ m .allowed)
-    go B v (inl e) =
-        let none : verdictNumber (verdictOf (runOf r)) ≡ 0 = ap verdictNumber (stopped-unmeasured (runOf r) (is-stopped (runOf r .phase) e)) in
-        absurd (let z = sym v ∙ none in omega arith)
-    go B v (inr e) = due (joined given) (runOf r) B e .0 .0 v
+    go : (isStopped (runOf r .phase) ≡ true) ⊎ (runOf r ≡ examined (joined given))
+        → ((isStopped (runOf r .phase) ≡ true) × (verdictNumber (verdictOf (runOf r)) ≡ 0))
+        ⊎ ((runOf r ≡ examined (joined given)) × (AllBytes (joined given) → VerdictDue (joined given) (verdictNumber (verdictOf (runOf r)))))
+    go (inl e) = inl (e, ap verdictNumber (stopped-unmeasured (runOf r) (is-stopped (runOf r .phase) e)))
+    go (inr e) = inr (e, λ B. due (joined given) (runOf r) B e)
 
 -- ---- they exist
 pub hosted-exists : HostedExists

@@ -6,6 +6,7 @@ pub mod Flags
 pub mod Trial
 pub mod OneForAll
 pub mod Tallies
+pub mod Entered
 pub mod LaneCounts
 pub mod Labels
 pub mod ReedSolomon

@@ -1,7 +1,7 @@
 -- A host that calls receiving, the account and the verdict itself is answered the verdict of the capture's run.
 -- Assumes nothing.
 use mathlib.Core.Path.{_≡_, refl, sym, ap, _∙_, subst}
-use mathlib.Core.Bool.{Bool, true, false, cond, not}
+use mathlib.Core.Bool.{cond, not}
 use mathlib.Core.Logic.{_≢_, _⊎_, inl, inr, _↔_}
 use mathlib.Core.List.{List, [], _∷_, append-assoc}
 use Prim.Native.Nat.{ℕ, zero, suc, _-_, _<_, _≤_}
@@ -9,11 +9,9 @@ use native.Mathlib.Decide.{ℕ-discrete}
 use native.Mathlib.Omega.{arith}
 use lib.Dec.{eqb}
 use lib.ListN.{length, take, drop, replicate, length-replicate}
-use borrow.Author.Tests.{eq-eqb, ne-eqb}
-use Rattle.pilots.specs.definitions.Pilots.{locks}
+use borrow.Author.Tests.{ne-eqb}
 use Rattle.framing.specs.definitions.Call.{base, after}
 use Rattle.framing.specs.definitions.Receive.{receivedStore, receivedLanes, receivedFlags, receiveNumber, Receives}
-use Rattle.framing.proofs.Receiving.{all-lengths, done, flags-length}
 use Rattle.account.specs.declared.Account.{Account}
 use Rattle.account.specs.declared.Entry.{Entry}
 use Rattle.account.specs.definitions.Account.{opened, lossEntered, measured, verdict, verdictNumber}
@@ -27,45 +25,13 @@ use Rattle.bench.specs.definitions.Walk.{cut, pieces, through, examined}
 use Rattle.bench.proofs.Walk.{end, refused-stops, through-stays, step-piece, pieces-first}
 use Rattle.adderbloom.specs.definitions.Entry.{flagsEntered}
 use Rattle.demands.specs.definitions.Verdict.{Arrived}
-use Rattle.demands.specs.definitions.Host.{Due, OwnAccount}
-use Rattle.demands.specs.statements.Host.{OwnVerdict}
+use Rattle.demands.specs.definitions.Host.{VerdictDue, OwnAccount}
+use Rattle.demands.specs.statements.Host.{OwnVerdict, ToldStopped}
 use Rattle.demands.proofs.Arriving.{runAfter, onward-frames}
 use Rattle.demands.proofs.Verdict.{stopped-unmeasured}
 use Rattle.demands.proofs.Walked.{up-to}
+use Rattle.demands.proofs.Entered.{known, entered, lost}
 use Rattle.demands.proofs.Host.{due}
-
--- ---- one frame
-
--- what a call of receiving with the right lengths answered, and the entry that then follows, are the entry of the frame in a run
-module _ (f s o g : List ℕ) (number : ℕ) (s′ o′ g′ : List ℕ) (R : Receives base f s o g number s′ o′ g′) (hf : length f ≡ 6144)
-    (lent : (length s ≡ 2880) × (length o ≡ 5280) × (length g ≡ 384)) (a : Account) (got : ℕ) where
-  by-lock : number ≡ cond (locks f 0) 0 5
-  by-lock = R .number ∙ all-lengths f s o g hf (lent .0) (lent .1) (lent .2)
-
-  known : (number ≡ 0) ⊎ (number ≡ 5)
-  known = go (locks f 0) by-lock
-    where
-      go : (b : Bool) → number ≡ cond b 0 5 → (number ≡ 0) ⊎ (number ≡ 5)
-      go true e = inl e
-      go false e = inr e
-
-  entered : number ≡ 0 → entryOf a got f ≡ flagsEntered a got g′
-  unfolding entryOf flagsEntered
-  entered z =
-      let flags : g′ ≡ receivedFlags f = done base f s o g number s′ o′ g′ z R .2 in
-      rw (locked (locks f 0) by-lock, flags, eq-eqb _ _ (flags-length f)) refl
-    where
-      locked : (b : Bool) → number ≡ cond b 0 5 → b ≡ true
-      locked true e = refl
-      locked false e = absurd (omega arith)
-
-  lost : number ≡ 5 → entryOf a got f ≡ lossEntered a got
-  unfolding entryOf
-  lost z = rw (unlocked (locks f 0) by-lock) refl
-    where
-      unlocked : (b : Bool) → number ≡ cond b 0 5 → b ≡ false
-      unlocked true e = absurd (omega arith)
-      unlocked false e = refl
 
 -- ---- the capture's run
 
@@ -125,7 +91,7 @@ not-measured : (r : Run) → r .phase ≡ Stopped → verdictNumber (verdictOf r
 unfolding verdictNumber
 not-measured r h = ap verdictNumber (stopped-unmeasured r h)
 
-told-stopped : (asked allowed n : ℕ) (a : Account) → n ≢ 0 → verdictNumber (verdict asked allowed a (not (eqb n 0))) ≡ 0
+pub told-stopped : ToldStopped
 unfolding verdict verdictNumber
 told-stopped asked allowed n a h = rw (ne-eqb n 0 h) refl
 
@@ -153,9 +119,9 @@ module _ (s : List ℕ) (a : Arrived s) (answer : ℕ) (O : OwnAccount a answer)
       go (known _ _ _ _ _ _ _ _ R w (O .lent k h) (O .accounts k) (a .numbers k))
       (entered _ _ _ _ _ _ _ _ R w (O .lent k h) (O .accounts k) (a .numbers k)) (lost _ _ _ _ _ _ _ _ R w (O .lent k h) (O .accounts k) (a .numbers k))
     where
-      go : (O .numbers k ≡ 0) ⊎ (O .numbers k ≡ 5)
-          → (O .numbers k ≡ 0 → entryOf (O .accounts k) (a .numbers k) (a .frames k) ≡ flagsEntered (O .accounts k) (a .numbers k) (O .flags k))
-          → (O .numbers k ≡ 5 → entryOf (O .accounts k) (a .numbers k) (a .frames k) ≡ lossEntered (O .accounts k) (a .numbers k))
+      go : (O .answers k ≡ 0) ⊎ (O .answers k ≡ 5)
+          → (O .answers k ≡ 0 → entryOf (O .accounts k) (a .numbers k) (a .frames k) ≡ flagsEntered (O .accounts k) (a .numbers k) (O .flags k))
+          → (O .answers k ≡ 5 → entryOf (O .accounts k) (a .numbers k) (a .frames k) ≡ lossEntered (O .accounts k) (a .numbers k))
           → entryOf (O .accounts k) (a .numbers k) (a .frames k) ≡ record { refusal = O .refusals k; account = O .accounts (suc k) }
       go (inl z) E L = E z ∙ sym (O .enters k h z)
       go (inr z) E L = L z ∙ sym (O .loses k h z)
@@ -263,7 +229,7 @@ module _ (s : List ℕ) (a : Arrived s) where
       outs = λ k. fresh 5280;
       flagBuffers = λ k. fresh 384;
       lent = λ k h. (length-replicate {A = ℕ} 2880 0, length-replicate {A = ℕ} 5280 0, length-replicate {A = ℕ} 384 0);
-      numbers = numbers;
+      answers = numbers;
       kept = λ k. after (numbers k) (receivedStore (a .frames k) (fresh 2880)) (fresh 2880);
       lanes = λ k. after (numbers k) (receivedLanes base (a .frames k) (fresh 2880)) (fresh 5280);
       flags = λ k. after (numbers k) (receivedFlags (a .frames k)) (fresh 384);
@@ -300,4 +266,4 @@ module _ (s : List ℕ) (a : Arrived s) where
       go (no h) = own 1 (λ z. absurd (omega arith), λ y. absurd (h y))
 
 pub own-verdict : OwnVerdict
-own-verdict = (λ s a answer O. (answers s a answer O, λ B. subst (Due s) (sym (answers s a answer O)) (due s (examined s) B refl)), exists)
+own-verdict = (λ s a answer O. (answers s a answer O, λ B. subst (VerdictDue s) (sym (answers s a answer O)) (due s (examined s) B refl)), exists)

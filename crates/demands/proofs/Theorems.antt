@@ -4,6 +4,7 @@ use Rattle.demands.specs.statements.Demands.{Demands}
 use Rattle.demands.specs.statements.Calls.{Calls}
 use Rattle.decoder.proofs.Theorems.{mends-two, flagged-exactly, smallest-distance}
 use Rattle.account.proofs.Kept.{kept-from-order}
+use Rattle.framing.proofs.Calls.{base-places}
 use Rattle.framing.proofs.Stream.{block-rule}
 use Rattle.framing.proofs.Figures.{bench-figures}
 use Rattle.demands.proofs.Symbols.{symbol-rule}
@@ -13,13 +14,14 @@ use Rattle.demands.proofs.Flags.{flags-exactly}
 use Rattle.demands.proofs.Trial.{refused-exactly, flips-counted, trials-exist, undamaged-exist}
 use Rattle.demands.proofs.OneForAll.{one-for-all, two-flips}
 use Rattle.demands.proofs.Tallies.{tallies-alike}
+use Rattle.demands.proofs.Entered.{reported-is-entered}
 use Rattle.demands.proofs.Numbers.{step-numbers}
 use Rattle.demands.proofs.Verdict.{pass-exactly, fail-exactly, not-measured-exactly, program-says, measured-once, examinations-exist, arrived-always}
 use Rattle.demands.proofs.Verdict.{never-pass, all-counted, always-counted}
 use Rattle.demands.proofs.Reports.{reports-alike}
 use Rattle.demands.proofs.Host.{examined-verdict, examined-report, hosted-run, hosted-verdict, hosted-report, hosted-exists, nothing-dropped}
 use Rattle.demands.proofs.Host.{stopped-verdict}
-use Rattle.demands.proofs.OwnAccount.{own-verdict}
+use Rattle.demands.proofs.OwnAccount.{own-verdict, told-stopped}
 use Rattle.demands.proofs.Labels.{spans-label}
 use Rattle.demands.proofs.ReedSolomon.{carries-exactly, reed-solomon-bound, four-pairs}
 use Rattle.demands.proofs.Exceeded.{spans-exist, other-places, other-pairs}
@@ -29,6 +31,7 @@ demands =
     record {
       stepNumbers = step-numbers;
       symbols = symbol-rule;
+      places = base-places;
       blocks = block-rule;
       figures = bench-figures;
       returns = return;
@@ -54,6 +57,7 @@ demands =
       kept = kept-from-order;
       oneForAll = one-for-all;
       tallies = tallies-alike;
+      reported = reported-is-entered;
       reports = reports-alike;
       trials = trials-exist;
       refused = refused-exactly;
@@ -79,4 +83,5 @@ calls =
       nothingDropped = nothing-dropped;
       stopped = stopped-verdict;
       ownVerdict = own-verdict;
+      toldStopped = told-stopped;
     }

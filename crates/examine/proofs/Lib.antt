@@ -1,3 +1,3 @@
 pub mod Answer
 pub mod Buffer
-pub mod Reading
+pub mod SoFar

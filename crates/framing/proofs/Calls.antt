@@ -7,7 +7,9 @@ use native.Mathlib.Decide.{ℕ-discrete}
 use native.Mathlib.Omega.{arith}
 use lib.ListN.{length}
 use borrow.Author.Tests.{eq-eqb, ne-eqb}
+use Rattle.lanes.specs.definitions.Permutation.{named}
 use Rattle.framing.specs.definitions.Call.{unless, after}
+use Rattle.framing.specs.statements.Call.{BasePlaces}
 
 pub passed : (n : ℕ) (s : List ℕ) (r t : ℕ) → length s ≡ n → unless n s r t ≡ t
 passed n s r t e = rw (eq-eqb (length s) n e) refl
@@ -29,3 +31,7 @@ left r k new old e = rw (ne-eqb r 0 (λ z. omega arith)) refl
 
 pub written : (r : ℕ) (new old : List ℕ) → r ≡ 0 → after r new old ≡ new
 written r new old e = rw e refl
+
+pub base-places : BasePlaces
+unfolding named
+base-places = (refl, refl, refl, refl)

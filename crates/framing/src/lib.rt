@@ -67,7 +67,7 @@ fn mended_words(input: &[u8], words: &mut [u64; 768], flags: &mut [u8; 384])
     decoder::decode_frame(words, flags);
 }
 
-// A frame's lock, its words mended and their flags: what a run needs of a frame, and the first half of receiving. A wrong length, or no lock, is refused by
+// A frame's lock, its words mended and their flags: the first half of receiving, for a caller that wants no lanes. A wrong length, or no lock, is refused by
 // its number and changes nothing.
 pub fn receive_words(input: &[u8], words: &mut [u64; 768], flags: &mut [u8; 384]) -> u32
     ensures { λ r. ⌜ ReceivesWords (now (input .entry)) (now (words .entry)) (now (flags .entry)) r (now (words .exit)) (now (flags .exit)) ⌝ }

@@ -82,8 +82,8 @@ frameRefusal Unordered r got f = 0
 frameRefusal Going r got f = entryOf (r .account) got f .refusal
 frameRefusal Stopped r got f = 0
 
--- by which refusal what was read stops the run: 6 to 9, and 22 in a step, the record's own, 10 to 12 its entry's, 0 by none. A second order and a frame
--- before any order have no number
+-- by which refusal what was read stops the run: 6 to 9, and 22 in a step, the record's own; 10 and 11 its entry's, of which 12 never comes; 0 by none. A
+-- second order and a frame before any order have no number
 unfoldable pub refusalOf : Read → Run → List ℕ → ℕ
 refusalOf End r s = 0
 refusalOf (Refused refusal) r s = cond (isStopped (r .phase)) 0 refusal

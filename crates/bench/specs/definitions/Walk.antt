@@ -4,8 +4,8 @@ use mathlib.Core.Path.{_≡_}
 use mathlib.Core.Logic.{_⊎_}
 use mathlib.Core.Bool.{Bool, true, cond}
 use mathlib.Core.List.{List, [], _∷_, _++_}
-use Prim.Native.Nat.{ℕ, zero, suc, _<_}
-use lib.Dec.{eqb}
+use Prim.Native.Nat.{ℕ, zero, suc, _-_, _<_}
+use lib.Dec.{eqb, ltb}
 use lib.ListN.{length, take, drop}
 use Rattle.capture.specs.declared.Read.{Read}
 use Rattle.capture.specs.declared.Read.the-variants.{End}
@@ -41,8 +41,12 @@ unfoldable pub joined : List (List ℕ) → List ℕ
 joined [] = []
 joined (p ∷ ps) = p ++ joined ps
 
+-- a record's bytes, from its place to the next one; where the place stays, all that is left
+abbrev pub bytesAt : List ℕ → (place next : ℕ) → List ℕ
+bytesAt s place next = cond (ltb place next) (take (next - place) (drop place s)) (drop place s)
+
 -- the calls of a reader over the capture s, from its beginning on, to the end or to what stops the run: what stands at its place, the reader moved to the
--- place after it, and what that changes of the run
+-- place after it, and a step of the run over the record's bytes
 pub record Reading (s : List ℕ) (r : Run) : Type 0 where
   pub calls : ℕ
   pub places : ℕ → ℕ
@@ -51,7 +55,7 @@ pub record Reading (s : List ℕ) (r : Run) : Type 0 where
   pub begin : (places 0 ≡ 0) × (runs 0 ≡ begun)
   pub next : (k : ℕ) → k < calls → reads k ≡ readAt s (places k)
   pub moved : (k : ℕ) → k < calls → places (suc k) ≡ nextOf (reads k) (places k)
-  pub came : (k : ℕ) → k < calls → runs (suc k) ≡ cameAs (reads k) (runs k) s
+  pub step : (k : ℕ) → k < calls → runs (suc k) ≡ stepped (runs k) (bytesAt s (places k) (places (suc k)))
   pub enough : (readAt s (places calls) ≡ End) ⊎ (isStopped (runs calls .phase) ≡ true)
   pub last : r ≡ runs calls
 

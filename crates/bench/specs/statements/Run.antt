@@ -9,7 +9,7 @@ use Rattle.capture.specs.definitions.Capture.{readOne}
 use Rattle.bench.specs.declared.Run.{Run}
 use Rattle.bench.specs.definitions.Run.{stopped, stepped, isStopped, stepRefusal, unnumbered}
 
--- a record stops a run exactly by a refusal, or as one of these
+-- a record stops a run exactly by a refusal, or as a second order or a frame before any
 abbrev pub StopsExactly : Type 0
 StopsExactly =
     (r : Run) (s : List ℕ) → isStopped (r .phase) ≡ false

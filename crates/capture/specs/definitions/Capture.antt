@@ -107,7 +107,7 @@ moreThanOne = 22
 abbrev pub more : Read → ℕ → Bool
 more read bytes = ltb 0 (nextOf read 0) && ltb (nextOf read 0) bytes
 
--- the one record that these bytes are; where more stands behind it they are refused
+-- the one record that these bytes are; where more stands behind it they are refused, after 6 to 9 and before anything is entered
 unfoldable pub readOne : List ℕ → Read
 readOne s = cond (more (readAt s 0) (length s)) (Refused moreThanOne) (readAt s 0)
 

@@ -20,8 +20,8 @@ use Rattle.adderbloom.specs.declared.runs.Run.{Run}
 use Rattle.demands.specs.definitions.Verdict.{Measured, flaggedWords, Arrived}
 
 -- a number says the verdict that is due to the capture s: 1 for PASS, 2 for FAIL, 0 for NOT MEASURED
-abbrev pub Due : List ℕ → ℕ → Type 0
-Due s n =
+abbrev pub VerdictDue : List ℕ → ℕ → Type 0
+VerdictDue s n =
     ((n ≡ 1) ↔ ((m : Measured s) × (flaggedWords m ≤ m .allowed)))
     × ((n ≡ 2) ↔ ((m : Measured s) × (m .allowed < flaggedWords m)))
     × ((n ≡ 0) ↔ (Measured s → ⊥))
@@ -57,19 +57,19 @@ pub record OwnAccount {s : List ℕ} (a : Arrived s) (answer : ℕ) : Type 0 whe
   pub outs : ℕ → List ℕ
   pub flagBuffers : ℕ → List ℕ
   pub lent : (k : ℕ) → k < calls → (length (stores k) ≡ 2880) × (length (outs k) ≡ 5280) × (length (flagBuffers k) ≡ 384)
-  pub numbers : ℕ → ℕ
+  pub answers : ℕ → ℕ
   pub kept : ℕ → List ℕ
   pub lanes : ℕ → List ℕ
   pub flags : ℕ → List ℕ
-  pub received : (k : ℕ) → k < calls → Receives base (a .frames k) (stores k) (outs k) (flagBuffers k) (numbers k) (kept k) (lanes k) (flags k)
+  pub received : (k : ℕ) → k < calls → Receives base (a .frames k) (stores k) (outs k) (flagBuffers k) (answers k) (kept k) (lanes k) (flags k)
   -- the account before each frame, and what each entry answers
   pub accounts : ℕ → Account
   pub refusals : ℕ → ℕ
   pub opens : accounts 0 ≡ opened (a .start)
-  pub enters : (k : ℕ) → k < calls → numbers k ≡ 0
+  pub enters : (k : ℕ) → k < calls → answers k ≡ 0
       → record { refusal = refusals k; account = accounts (suc k) } ≡ flagsEntered (accounts k) (a .numbers k) (flags k)
   -- without lock
-  pub loses : (k : ℕ) → k < calls → numbers k ≡ 5 → record { refusal = refusals k; account = accounts (suc k) } ≡ lossEntered (accounts k) (a .numbers k)
+  pub loses : (k : ℕ) → k < calls → answers k ≡ 5 → record { refusal = refusals k; account = accounts (suc k) } ≡ lossEntered (accounts k) (a .numbers k)
   pub enough : (calls ≡ a .n) ⊎ ((k : ℕ) × (k < calls) × (refusals k ≢ 0))
   -- `stopped` is 0 exactly if no entry was refused and nothing stands behind the frames
   pub stopped : ℕ

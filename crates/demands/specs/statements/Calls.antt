@@ -1,7 +1,7 @@
 -- The demands for a host in C, on one page: the three ways in which its calls come to a verdict. `proofs/Theorems` has a value of it.
 -- Assumes nothing.
 use Rattle.demands.specs.statements.Host.{ExaminedVerdict, ExaminedReport, HostedRun, HostedVerdict, HostedReport, HostedExists, NothingDropped}
-use Rattle.demands.specs.statements.Host.{StoppedVerdict, OwnVerdict}
+use Rattle.demands.specs.statements.Host.{StoppedVerdict, OwnVerdict, ToldStopped}
 
 pub record Calls : Type 0 where
   -- a capture in memory, in one call: its verdict, and its report
@@ -15,5 +15,6 @@ pub record Calls : Type 0 where
   -- whatever bytes are given to each step, none of them is passed over; and a run that is stopped is not measured
   pub nothingDropped : NothingDropped
   pub stopped : StoppedVerdict
-  -- receiving, the account and the verdict called by the host itself: the verdict is that of the capture's run
+  -- receiving, the account and the verdict called by the host itself: the verdict is that of the capture's run; and 0 where the host says that it was stopped
   pub ownVerdict : OwnVerdict
+  pub toldStopped : ToldStopped

@@ -3,6 +3,7 @@
 -- Assumes nothing.
 use Rattle.decoder.specs.statements.Word.{MendsTwo, FlaggedExactly, SmallestDistance}
 use Rattle.account.specs.statements.Kept.{KeptFromOrder}
+use Rattle.framing.specs.statements.Call.{BasePlaces}
 use Rattle.framing.specs.statements.Stream.{BlockRule}
 use Rattle.framing.specs.statements.Figures.{BenchFigures}
 use Rattle.demands.specs.statements.Symbols.{SymbolRule}
@@ -11,7 +12,7 @@ use Rattle.demands.specs.statements.Stores.{StoresHold, LastKept}
 use Rattle.demands.specs.statements.Flags.{FlagsExactly}
 use Rattle.demands.specs.statements.Trial.{FlipsCounted, RefusedExactly, TrialsExist}
 use Rattle.demands.specs.statements.OneForAll.{OneForAll, TwoFlips}
-use Rattle.demands.specs.statements.Tallies.{TalliesAlike, ReportsAlike}
+use Rattle.demands.specs.statements.Tallies.{TalliesAlike, ReportedIsEntered, ReportsAlike}
 use Rattle.demands.specs.statements.Verdict.{PassExactly, FailExactly, NotMeasuredExactly, ProgramSays, MeasuredOnce, ExaminationsExist, ArrivedAlways}
 use Rattle.demands.specs.statements.Verdict.{NeverPass, AllCounted, AlwaysCounted, StepNumbers}
 use Rattle.demands.specs.statements.ReedSolomon.{SpansExist, SpansLabel, CarriesExactly, ReedSolomonBound, FourPairs, OtherPlaces, OtherPairs}
@@ -20,8 +21,9 @@ use Rattle.demands.specs.statements.ReedSolomon.{SpansExist, SpansLabel,
 pub record Demands : Type 0 where
   -- demand 1: by which numbers a record is refused in a run
   pub stepNumbers : StepNumbers
-  -- demand 2: sent frames symbol for symbol; what their words carry; and the figures that 01 prints
+  -- demand 2: sent frames symbol for symbol; which symbols are exchanged; what their words carry; and the figures that 01 prints
   pub symbols : SymbolRule
+  pub places : BasePlaces
   pub blocks : BlockRule
   pub figures : BenchFigures
   -- demand 2: an undamaged stream comes back; one frame alone; there are such streams; and the last 36 blocks are in the two stores, row by row and bit by bit
@@ -54,6 +56,7 @@ pub record Demands : Type 0 where
   -- demand 3, first half, through the account and through the program too; and that there are trials, what they are refused by, and what counts as a flip
   pub oneForAll : OneForAll
   pub tallies : TalliesAlike
+  pub reported : ReportedIsEntered
   pub reports : ReportsAlike
   pub trials : TrialsExist
   pub refused : RefusedExactly

@@ -9,7 +9,6 @@ use lib.ListN.{length}
 use Rattle.bch.specs.definitions.Code.{distance}
 use Rattle.lanes.specs.definitions.Permutation.{Places}
 use Rattle.symbols.specs.definitions.Frame.{arrived}
-use Rattle.pilots.specs.definitions.Pilots.{lockLimit}
 use Rattle.framing.specs.definitions.Call.{unless}
 use Rattle.demands.specs.definitions.Trial.{hit, Trial, flipsIn, hitPilots}
 
@@ -24,7 +23,7 @@ FlipsCounted =
 abbrev pub RefusedExactly : Type 0
 RefusedExactly =
     (ex : Places) (n : ℕ) (flips lanes room outs flagBuffers : ℕ → List ℕ) (t : Trial ex n flips lanes room outs flagBuffers) (f : ℕ) → f < n
-    → t .numbers f ≡ unless 5280 (outs f) 3 (unless 384 (flagBuffers f) 4 (cond (ltb (hitPilots (flips f)) lockLimit) 0 5))
+    → t .numbers f ≡ unless 5280 (outs f) 3 (unless 384 (flagBuffers f) 4 (cond (ltb (hitPilots (flips f)) 25) 0 5))
 
 -- there is a trial for any whole lanes with room for their frames, any flips, and any outputs and flags
 abbrev pub TrialsExist : Type 0

@@ -12,7 +12,7 @@ use Rattle.bits.specs.definitions.Bits.{AllBytes}
 use Rattle.pilots.specs.definitions.Pilots.{locks}
 use Rattle.account.specs.definitions.Account.{total}
 use Rattle.capture.specs.declared.Read.the-variants.{Order}
-use Rattle.capture.specs.definitions.Capture.{readAt, moreThanOne, more, frameNumber}
+use Rattle.capture.specs.definitions.Capture.{readAt, more, frameNumber}
 use Rattle.bench.specs.declared.Run.{Run}
 use Rattle.bench.specs.definitions.Run.{isStopped, stepRefusal}
 use Rattle.bench.specs.definitions.Walk.{examined, followed}
@@ -81,10 +81,10 @@ AllCounted =
 abbrev pub AlwaysCounted : Type 0
 AlwaysCounted = (s : List ℕ) → total (examined s .account .words) ≡ 384 * examined s .account .accepted
 
--- the numbers by which a record stops a run: 6 to 11, and 22, which is given exactly where a record stands in the bytes and more behind it. 12 never comes,
--- since a frame that was received brings its 384 words
+-- the numbers by which a record stops a run: 6 to 11, and 22, which is given exactly where a record stands in the bytes and more behind it, before 10 and 11:
+-- nothing is entered then. 12 never comes, since a frame that was received brings its 384 words
 abbrev pub StepNumbers : Type 0
 StepNumbers =
     (r : Run) (s : List ℕ)
-    → ((stepRefusal r s ≡ 0) ⊎ (((6 ≤ stepRefusal r s) × (stepRefusal r s ≤ 11)) ⊎ (stepRefusal r s ≡ moreThanOne)))
-    × (isStopped (r .phase) ≡ false → (stepRefusal r s ≡ moreThanOne) ↔ (more (readAt s 0) (length s) ≡ true))
+    → ((stepRefusal r s ≡ 0) ⊎ (((6 ≤ stepRefusal r s) × (stepRefusal r s ≤ 11)) ⊎ (stepRefusal r s ≡ 22)))
+    × (isStopped (r .phase) ≡ false → (stepRefusal r s ≡ 22) ↔ (more (readAt s 0) (length s) ≡ true))

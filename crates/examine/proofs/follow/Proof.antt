@@ -10,12 +10,12 @@ use Rattle.capture.specs.definitions.Capture.{layout}
 use Rattle.bench.proofs.Remaining.{remainingOf}
 use Rattle.examine.specs.definitions.Answer.{negative, NoMore}
 use Rattle.examine.proofs.Buffer.{none-yet}
-use Rattle.examine.proofs.Reading.{Reading, answers-failed, answers-ended, answers-stopped, reading-starts, reading-goes, reading-less}
+use Rattle.examine.proofs.SoFar.{SoFar, answers-failed, answers-ended, answers-stopped, reading-starts, reading-goes, reading-less}
 use Rattle.examine.proofs.follow.Statement.{statement}
 use Rattle.examine.proofs.follow.Tie as tie
 
 abbrev Inv-loop : tie.InvT-loop
-Inv-loop fd buffer₀ run₀ answer₀ going₀ buffer run answer going = Reading run going × (length buffer ≡ layout .frameBytes) × (negative (toZ w64 answer) ≡ false)
+Inv-loop fd buffer₀ run₀ answer₀ going₀ buffer run answer going = SoFar run going × (length buffer ≡ layout .frameBytes) × (negative (toZ w64 answer) ≡ false)
 
 abbrev μ-loop : tie.MeasureT-loop
 μ-loop fd buffer₀ run₀ answer₀ going₀ buffer run answer going = remainingOf run

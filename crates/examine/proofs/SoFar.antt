@@ -25,7 +25,7 @@ use Rattle.bench.proofs.Walk.{Onward, onward-starts, onward-ends, onward-last, 
 use Rattle.bench.proofs.Remaining.{remainingOf, step-less}
 
 -- the bytes read so far, and that the run is what they come to; while the run goes on, whatever may follow
-pub record Reading (run : Run) (going : Bool) : Type 0 where
+pub record SoFar (run : Run) (going : Bool) : Type 0 where
   pub read : List ℕ
   pub bytes : AllBytes read
   pub came : run ≡ examined read
@@ -38,7 +38,7 @@ Answers r =
     ((s : List ℕ) × AllBytes s × (r .run ≡ followed s (r .failed)))
     × (r .failed ≡ negative (r .answer)) × (isStopped (r .run .phase) ≡ false → r .answer ≡ pos 0)
 
-module _ (run : Run) (going : Bool) (R : Reading run going) (r : Came) (z : ℤ) where
+module _ (run : Run) (going : Bool) (R : SoFar run going) (r : Came) (z : ℤ) where
   pub answers-failed : r ≡ record { run = stopped run; failed = true; answer = z } → negative z ≡ true → Answers r
   unfolding isStopped
   answers-failed e f = rw e ((R .read, R .bytes, ap stopped (R .came)), sym f, λ x. absurd (false≢true (sym x)))
@@ -58,7 +58,7 @@ module _ (run : Run) (going : Bool) (R : Reading run going) (r : Came) (z : ℤ)
 no-bytes : AllBytes []
 no-bytes = record { byte = λ m. let e : _≡_ {A = ℕ} (getD [] m 0) 0 = List·getD-eq-default [] 0 {n = m} (omega arith) in omega arith }
 
-pub reading-starts : (r : Run) → r ≡ begun → Reading r true
+pub reading-starts : (r : Run) → r ≡ begun → SoFar r true
 unfolding isStopped
 reading-starts r e = let O = onward-starts r e in record { read = []; bytes = no-bytes; came = onward-ends [] r O; onward = λ z. O; stops = rw e refl }
 
@@ -81,7 +81,7 @@ off true e = absurd (false≢true e)
 off false e = refl
 
 -- one piece more
-module _ (run : Run) (going : Bool) (R : Reading run going) (on : going ≡ true) (buffer : List ℕ) (n : ℕ) (some : n ≢ 0) (inside : n ≤ length buffer)
+module _ (run : Run) (going : Bool) (R : SoFar run going) (on : going ≡ true) (buffer : List ℕ) (n : ℕ) (some : n ≢ 0) (inside : n ≤ length buffer)
     (cut : n ≤ wanted (take n buffer)) where
   abbrev piece : List ℕ
   piece = take (n - 0) (drop 0 buffer)
@@ -96,7 +96,7 @@ module _ (run : Run) (going : Bool) (R : Reading run going) (on : going ≡ true
   piece-cut = rw (piece-length, same) cut
 
   module _ (new : Run) (B : AllBytes piece) (step : new ≡ stepped run piece) where
-    pub reading-goes : (stop : Bool) → stop ≡ isStopped (new .phase) → Reading new (not stop)
+    pub reading-goes : (stop : Bool) → stop ≡ isStopped (new .phase) → SoFar new (not stop)
     reading-goes stop e =
         record {
           read = R .read ++ piece;
