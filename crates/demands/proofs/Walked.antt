@@ -58,8 +58,8 @@ pub measured-run : (s : List ℕ) (m : Measured s) → examined s ≡ measuredRu
 unfolding through pieces cut
 measured-run s m =
     ap examined (m .capture ∙ sym (append-nil (orderRecord (m .start) (m .asked) (m .allowed) ++ frameRecords (frameNumber (m .start)) (m .frames) (m .asked))))
-    ∙ sym (onward-frames (m .start) (m .asked) (m .allowed) (frameNumber (m .start)) (m .frames) (m .numbers) (m .asked) (λ k h.
-    (omega arith, m .whole k h)) [])
+    ∙ sym (onward-frames (m .start) (m .asked) (m .allowed) (frameNumber (m .start)) (m .frames) (m .numbers) (m .asked)
+    (λ k h. (omega arith, m .whole k h)) [])
     ∙ in-turn (m .start) (m .asked) (m .allowed) (m .frames) (m .numbers .0) (m .asked) (m .within) (m .locked)
 
 -- ---- and back

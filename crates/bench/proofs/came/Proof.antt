@@ -34,8 +34,9 @@ returns-3 c = rw (c .order-came .ensures) (at-case (coming (c .before .before .b
 
 returns-4 : tie.Need-returns-4
 unfolding cameAs refusalOf
-returns-4 c = rw (c .frame-came .ensures, c .before .symbols-at .ensures) (at-case (coming (c .before .before .before .before .before .before))
-    (c .before .before .before .read3 .given .1))
+returns-4 c =
+    let read = c .before .before .before in
+    rw (c .frame-came .ensures, c .before .symbols-at .ensures) (at-case (coming (read .before .before .before)) (read .read3 .given .1))
 
 pub came-spec : {M : Type 1} → statement M
 came-spec =

@@ -21,14 +21,14 @@ loop-holds c = walk-starts _ _ (c .begun .ensures)
 
 returns : tie.Need-returns Inv-loop μ-loop
 returns c =
-    walk-stops _ _ _ (c .before .before .before .before .before .before .loop .inv) (c .before .before .before .before .before .loop-test .taken) _
-    (c .before .before .before .before .read-at .ensures) _
+    let read = c .before .before .before .before in
+    walk-stops _ _ _ (read .before .before .loop .inv) (read .before .loop-test .taken) _ (read .read-at .ensures) _
     (ap (λ (x : Stepped). x .run) (c .before .before .came .ensures)) _ (c .before .before .before .next-place .ensures) (search needs)
 
 loop-again : tie.Need-loop-again Inv-loop μ-loop
 loop-again c =
-    walk-goes _ _ _ (c .before .before .before .before .before .before .loop .inv) (c .before .before .before .before .before .loop-test .taken) _
-    (c .before .before .before .before .read-at .ensures) _
+    let read = c .before .before .before .before in
+    walk-goes _ _ _ (read .before .before .loop .inv) (read .before .loop-test .taken) _ (read .read-at .ensures) _
     (ap (λ (x : Stepped). x .run) (c .before .before .came .ensures)) _ (c .before .before .before .next-place .ensures) (search needs)
 
 returns-2 : tie.Need-returns-2 Inv-loop μ-loop

@@ -15,18 +15,19 @@ after run e = record { refusal = e .refusal; run = afterEntry run e }
 
 returns : tie.Need-returns
 returns c =
-    let start = c .before .before .before .before .before .before .before .before in
-    c .after-entry .ensures
-    ∙ ap (after (start .args .run)) (lost _ _ (c .before .before .before .receive-words .ensures) (start .pre) (c .before .before .if1 .taken) _
-    (c .before .lose .ensures))
+    let told = c .before .before .before in
+    let start = told .before .before .before .before .before in
+    let entry = lost _ _ (told .receive-words .ensures) (start .pre) (c .before .before .if1 .taken) _ (c .before .lose .ensures) in
+    c .after-entry .ensures ∙ ap (after (start .args .run)) entry
 
 returns-2 : tie.Need-returns-2
 returns-2 c =
-    let start = c .before .before .before .before .before .before .before .before .before .before in
-    c .after-entry2 .ensures
-    ∙ ap (after (start .args .run)) (entered _ _ (c .before .before .before .before .before .receive-words .ensures) (start .pre)
-    (c .before .before .before .before .if1 .left)
-    _ (c .before .before .tallies-of .ensures) _ (c .before .enter .ensures))
+    let told = c .before .before .before .before .before in
+    let start = told .before .before .before .before .before in
+    let entry =
+    entered _ _ (told .receive-words .ensures) (start .pre) (c .before .before .before .before .if1 .left)
+    _ (c .before .before .tallies-of .ensures) _ (c .before .enter .ensures) in
+    c .after-entry2 .ensures ∙ ap (after (start .args .run)) entry
 
 pub framed-spec : {M : Type 1} → statement M
 framed-spec =

@@ -34,32 +34,31 @@ below : (c : tie.After-struct-told Inv-loop μ-loop) (b : Bool) → c .before .b
 below c b e = ap negative (same c) ∙ sym (c .before .before .next-piece .ensures .3) ∙ e
 
 returns : tie.Need-returns Inv-loop μ-loop
-returns c = answers-failed _ _ (c .before .before .before .before .before .before .before .loop .inv .0) _ _ (c .broken-off .ensures) (below
-    (c .before .before) true (c .before .if1 .taken))
+returns c =
+    let told = c .before .before in
+    answers-failed _ _ (told .before .before .before .before .before .loop .inv .0) _ _ (c .broken-off .ensures) (below told true (c .before .if1 .taken))
 
 returns-2 : tie.Need-returns-2 Inv-loop μ-loop
 returns-2 c =
-    answers-ended _ _ (c .before .before .before .before .before .before .before .before .loop .inv .0) _ _ (c .to-the-end .ensures) (below
-    (c .before .before .before) false (c .before .before .if1 .left))
-    (subst NoMore (sym (same (c .before .before .before))) (c .before .before .before .before .before .next-piece .ensures .4 (none-yet _ _
-    (c .before .if2 .taken))))
+    let told = c .before .before .before in
+    answers-ended _ _ (told .before .before .before .before .before .loop .inv .0) _ _ (c .to-the-end .ensures)
+    (below told false (c .before .before .if1 .left))
+    (subst NoMore (sym (same told)) (told .before .before .next-piece .ensures .4 (none-yet _ _ (c .before .if2 .taken))))
 
 -- a piece that came, and the step over it
 loop-less : tie.Need-loop-less Inv-loop μ-loop
 loop-less c =
-    let piece = c .before .before .before .before .before .before .before .before .next-piece in
-    reading-less _ _ (c .before .before .before .before .before .before .before .before .before .before .before .loop .inv .0)
-    (c .before .before .before .before .before .before .before .before .before .before .loop-test .taken) (piece .last .1 .0) (piece .result .end)
-    (search needs) (search needs)
-    (piece .ensures .2) _ (c .before .step .ensures .1) (c .before .step .ensures .0)
+    let came = c .before .before .before .before .before .before .before .before in
+    let piece = came .next-piece in
+    reading-less _ _ (came .before .before .before .loop .inv .0) (came .before .before .loop-test .taken) (piece .last .1 .0) (piece .result .end)
+    (search needs) (search needs) (piece .ensures .2) _ (c .before .step .ensures .1) (c .before .step .ensures .0)
 
 loop-again : tie.Need-loop-again Inv-loop μ-loop
 loop-again c =
-    let piece = c .before .before .before .before .before .before .before .before .next-piece in (
-      reading-goes _ _ (c .before .before .before .before .before .before .before .before .before .before .before .loop .inv .0)
-          (c .before .before .before .before .before .before .before .before .before .before .loop-test .taken) (piece .last .1 .0) (piece .result .end)
-          (search needs) (search needs)
-          (piece .ensures .2) _ (c .before .step .ensures .1) (c .before .step .ensures .0) _ (c .is-stopped .ensures),
+    let came = c .before .before .before .before .before .before .before .before in
+    let piece = came .next-piece in (
+      reading-goes _ _ (came .before .before .before .loop .inv .0) (came .before .before .loop-test .taken) (piece .last .1 .0) (piece .result .end)
+          (search needs) (search needs) (piece .ensures .2) _ (c .before .step .ensures .1) (c .before .step .ensures .0) _ (c .is-stopped .ensures),
       piece .ensures .0,
       below (c .before .before .before .before .before .before) false (c .before .before .before .before .before .if1 .left),
     )

@@ -8,15 +8,10 @@ use Rattle.examine.proofs.next_piece.Tie as tie
 
 returns : tie.Need-returns
 returns c =
-    let head = c .before .before .before .fill .ensures in
-    let first = c .before .before .before .before .before .wanted .ensures .0 in (
-      search needs,
-      search needs,
-      piece-begun _ _ _ first (head .0),
-      head .3,
-      λ _. negative-more (c .before .before .before .fill .result .answer) (sym
-          (head .3) ∙ c .if1 .taken),
-    )
+    let filled = c .before .before .before .fill in
+    let head = filled .ensures in
+    let first = c .before .before .before .before .before .wanted .ensures .0 in
+    (search needs, search needs, piece-begun _ _ _ first (head .0), head .3, λ _. negative-more (filled .result .answer) (sym (head .3) ∙ c .if1 .taken))
 
 returns-2 : tie.Need-returns-2
 returns-2 c =

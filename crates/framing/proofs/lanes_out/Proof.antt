@@ -12,19 +12,16 @@ use Rattle.framing.proofs.lanes_out.Tie as tie
 
 returns : tie.Need-returns
 returns c =
-    let start = c .before .before .before .before .before .before .before .before .before .before .before .before .before .before .before .before .before
-    .before .before .before .before .before .before .before .before in
+    let done = c .before .before .before .before .before .before .before .before .before .before .before .before .before .before .before in
+    let start = done .before .before .before .before .before .before .before .before .before .before in
     let words = start .args .words .now in
-    let kept = c .before .before .before .before .before .before .before .before .before .before .before .before .before .before .before .before .before
-    .before .before .copy .ensures ∙ copied-all _ _ (start .pre .0) in
-    let lanes = c .before .before .before .before .before .before .before .before .before .before .before .before .before .before .before .lanes-back .ensures
-    .0 ∙ ap (deinterleavedFrame base (wordLanes words)) kept in
-    let store = c .before .before .before .before .before .before .before .before .before .before .before .before .before .before .before .lanes-back .ensures
-    .1 ∙ ap (deinterleavedStore (wordLanes words)) kept in (
-      c .before .before .before .before .before .before .before .copy3 .ensures ∙ copied-all _ _ (ap length lanes ∙ lanes-length _ _ _ ∙ sym (start .pre .1))
-          ∙ lanes,
-      c .before .before .before .before .before .before .before .before .before .before .before .before .copy2 .ensures ∙ copied-all _ _ (ap length store
-          ∙ store-length _ _ ∙ sym (start .pre .0)) ∙ store,
+    let kept = done .before .before .before .before .copy .ensures ∙ copied-all _ _ (start .pre .0) in
+    let lanes = done .lanes-back .ensures .0 ∙ ap (deinterleavedFrame base (wordLanes words)) kept in
+    let store = done .lanes-back .ensures .1 ∙ ap (deinterleavedStore (wordLanes words)) kept in (
+      c .before .before .before .before .before .before .before .copy3 .ensures
+          ∙ copied-all _ _ (ap length lanes ∙ lanes-length _ _ _ ∙ sym (start .pre .1)) ∙ lanes,
+      c .before .before .before .before .before .before .before .before .before .before .before .before .copy2 .ensures
+          ∙ copied-all _ _ (ap length store ∙ store-length _ _ ∙ sym (start .pre .0)) ∙ store,
       c .before .before .copy4 .ensures ∙ copied-all _ _ (let l = start .pre .2 in search needs),
     )
 

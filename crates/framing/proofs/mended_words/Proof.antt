@@ -11,9 +11,9 @@ use Rattle.framing.proofs.mended_words.Tie as tie
 returns : tie.Need-returns
 unfolding receivedFlags
 returns c =
-    let frame = c .before .before .before .before .before .before .before .copy .ensures ∙ copied-all _ _
-    (c .before .before .before .before .before .before .before .before .before .before .pre) in
-    let words = c .before .before .before .words-from-frame .ensures ∙ ap wordsOf frame in
+    let read = c .before .before .before in
+    let frame = read .before .before .before .before .copy .ensures ∙ copied-all _ _ (read .before .before .before .before .before .before .before .pre) in
+    let words = read .words-from-frame .ensures ∙ ap wordsOf frame in
     (c .decode-frame .ensures .0 ∙ ap mendedFrame words, c .decode-frame .ensures .1 ∙ ap flagsOf words)
 
 pub mended-words-spec : {M : Type 1} → statement M

@@ -29,20 +29,20 @@ returns-4 c =
 
 returns-5 : tie.Need-returns-5
 returns-5 c =
-    let x = c .before .before .before .before .before .before .before .before .before .before .before .before .args in
+    let lengths = c .before .before .before .before in
+    let x = lengths .before .before .before .before .before .before .before .before .args in
     without-lock base (x .input .now) (x .store .now) (x .output .now) (x .flags .now) (c .before .receive-words .ensures)
-    (c .before .before .before .before .before .before .before .if1 .left) (c .before .before .before .before .before .before .if2 .left)
-    (c .before .before .before .before .before .if3 .left) (c .before .before .before .before .if4 .left) (c .if5 .taken)
+    (lengths .before .before .before .if1 .left) (lengths .before .before .if2 .left) (lengths .before .if3 .left) (lengths .if4 .left) (c .if5 .taken)
 
 returns-6 : tie.Need-returns-6
 returns-6 c =
     let number = c .before .before .before .before .before .before .before .before .before .before .before .before in
-    let x = number .before .before .before .before .before .before .before .before .before .before .before .before .args in
+    let lengths = number .before .before .before .before in
+    let x = lengths .before .before .before .before .before .before .before .before .args in
     let out = c .before .before .before .before .before .before .lanes-out .ensures in
     received base (x .input .now) (x .store .now) (x .output .now) (x .flags .now) (number .before .receive-words .ensures)
-    (number .before .before .before .before .before .before .before .if1 .left) (number .before .before .before .before .before .before .if2 .left)
-    (number .before .before .before .before .before .if3 .left) (number .before .before .before .before .if4 .left) (number .if5 .left) (out .1) (out .0)
-    (out .2)
+    (lengths .before .before .before .if1 .left) (lengths .before .before .if2 .left) (lengths .before .if3 .left) (lengths .if4 .left)
+    (number .if5 .left) (out .1) (out .0) (out .2)
 
 pub receive-spec : {M : Type 1} → statement M
 receive-spec =

@@ -18,10 +18,10 @@ returns-2 c =
 
 returns-3 : tie.Need-returns-3
 returns-3 c =
-    let x = c .before .before .before .before .before .before .before .args in
+    let lock = c .before .before .before in
+    let x = lock .before .before .before .before .args in
     words-done (x .input .now) (x .words .now) (x .flags .now) _ _
-    (words-lock _ (c .before .before .before .before .before .if1 .left) ∙ ap (λ (b : Bool). cond b 0 5) (sym
-    (c .before .before .before .before .locks .ensures) ∙ not-false _ (c .before .before .before .if2 .left)))
+    (words-lock _ (lock .before .before .if1 .left) ∙ ap (λ (b : Bool). cond b 0 5) (sym (lock .before .locks .ensures) ∙ not-false _ (lock .if2 .left)))
     (c .mended-words .ensures .0) (c .mended-words .ensures .1)
 
 pub receive-words-spec : {M : Type 1} → statement M
