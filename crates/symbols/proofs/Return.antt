@@ -5,14 +5,15 @@ use mathlib.Core.Path.{_≡_, refl, sym, ap, ap₂, _∙_}
 use mathlib.Core.Bool.{true, not, cond}
 use mathlib.Core.List.{List}
 use Prim.Native.Nat.{ℕ, _+_, _-_, _*_, _/_, _%_, _^_, _≤_, _<_}
-use native.Mathlib.Nat.{zero-add}
+use native.Mathlib.Nat.{zero-add, mod-eq-of-lt}
 use native.Mathlib.Decide.{ℕ-discrete, decLt}
 use native.Mathlib.Omega.{arith}
 use lib.Dec.{T, eqb, ltb, ltb→lt}
 use lib.ListN.{length, getD, List·getD-eq-default}
+use lib.Arith.{digits-div, digits-mod}
 use borrow.Author.Tests.{eq-eqb, ne-eqb}
 use Rattle.bits.specs.definitions.Bits.{number, bitOf, bitAt, AllBytes}
-use Rattle.bits.specs.definitions.Words.{wordAt}
+use Rattle.bits.specs.definitions.Words.{wordOf, wordAt, halfOf, rowOf}
 use Rattle.bits.proofs.Table.{every, table-rule}
 use Rattle.bits.proofs.Tabulate.{length-tabulate, getD-tabulate, is-tabulate}
 use Rattle.bits.proofs.Value.{value-cong, value-lt, bit-lt, bit-number, number-bits}
@@ -153,9 +154,31 @@ arrived-frame s i h l =
     ∙ ap₂ (λ (a b : ℕ). bitOf 126 (wordAt s a) b) e (unplace-place (i % 32) q))
     ∙ number-bits 126 (wordAt s i) l
 
+-- a row with nothing above its words is the row of its words
+row-is : (s : List ℕ) → ((j : ℕ) → getD s j 0 < 2 ^ 64) → length s ≡ 768 → ((i : ℕ) → i < 384 → getD s (2 * i) 0 < 2 ^ 62) → rowOf 384 (wordAt s) ≡ s
+unfolding halfOf wordAt wordOf
+row-is s small long clean = sym (is-tabulate 0 s 768 (halfOf (wordAt s)) long (λ j h. at j h (ℕ-discrete (j % 2) 0)))
+  where
+    word-is : (i : ℕ) → i < 384 → wordAt s i ≡ getD s (2 * i) 0 * 2 ^ 64 + getD s (2 * i + 1) 0
+    word-is i h = ap (λ (v : ℕ). v * 2 ^ 64 + getD s (2 * i + 1) 0) (mod-eq-of-lt (clean i h))
+
+    at : (j : ℕ) → j < 768 → Dec (j % 2 ≡ 0) → getD s j 0 ≡ cond (eqb (j % 2) 0) (wordAt s (j / 2) / 2 ^ 64) (wordAt s (j / 2) % 2 ^ 64)
+    at j h (yes e) =
+        let d : 2 * (j / 2) ≡ j = omega arith in
+        rw (eq-eqb (j % 2) 0 e)
+        (sym (ap (λ (v : ℕ). v / 2 ^ 64) (word-is (j / 2) (omega arith)) ∙ digits-div (getD s (2 * (j / 2)) 0) (small (2 * (j / 2) + 1))
+        ∙ ap (λ (k : ℕ). getD s k 0) d))
+    at j h (no e) =
+        let d : 2 * (j / 2) + 1 ≡ j = omega arith in
+        rw (ne-eqb (j % 2) 0 e)
+        (sym (ap (λ (v : ℕ). v % 2 ^ 64) (word-is (j / 2) (omega arith)) ∙ digits-mod (getD s (2 * (j / 2)) 0) (small (2 * (j / 2) + 1))
+        ∙ ap (λ (k : ℕ). getD s k 0) d))
+
 pub words-back : WordsBack
 unfolding wordsOf wordAt
-words-back s h = row-cong 384 _ _ (λ i l. arrived-frame s i l (word-lt (getD s (2 * i) 0) (getD s (2 * i + 1) 0) (h (2 * i + 1))))
+words-back s h =
+    let back = row-cong 384 _ _ (λ i l. arrived-frame s i l (word-lt (getD s (2 * i) 0) (getD s (2 * i + 1) 0) (h (2 * i + 1)))) in
+    (back, λ long clean. back ∙ row-is s h long clean)
 
 -- ---- and the other way: a frame with the right pilots
 

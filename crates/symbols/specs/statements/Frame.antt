@@ -18,9 +18,12 @@ FramePlaces =
     × ((k : ℕ) → k < 96 → getD (frameOf s) (64 * k) 0 ≡ getD pilots k 0)
     × ((k l : ℕ) → k < 12 → l < 504 → getD (frameOf s) (payloadAt (504 * k + l)) 0 ≡ number 8 (carriedBit s k l))
 
--- the words of the frame of a row of numbers of 64 bits are the row's words
+-- the words of the frame of a row of numbers of 64 bits are the row's words, and the row itself where nothing stands above its words
 abbrev pub WordsBack : Type 0
-WordsBack = (s : List ℕ) → ((j : ℕ) → getD s j 0 < 2 ^ 64) → wordsOf (frameOf s) ≡ rowOf 384 (wordAt s)
+WordsBack =
+    (s : List ℕ) → ((j : ℕ) → getD s j 0 < 2 ^ 64)
+    → (wordsOf (frameOf s) ≡ rowOf 384 (wordAt s))
+    × (length s ≡ 768 → ((i : ℕ) → i < 384 → getD s (2 * i) 0 < 2 ^ 62) → wordsOf (frameOf s) ≡ s)
 
 -- the frame of the words of any bytes has their payload symbols, whatever stands where the pilots do; a frame with the right pilots is the frame of its words
 abbrev pub FrameBack : Type 0
