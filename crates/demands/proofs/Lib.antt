@@ -13,6 +13,7 @@ pub mod ReedSolomon
 pub mod Exceeded
 pub mod Measured
 pub mod Numbers
+pub mod Refusals
 pub mod Arriving
 pub mod Walked
 pub mod Lines

@@ -7,6 +7,7 @@ use Rattle.account.proofs.Kept.{kept-from-order}
 use Rattle.framing.proofs.Calls.{base-places}
 use Rattle.framing.proofs.Stream.{block-rule}
 use Rattle.framing.proofs.Figures.{bench-figures}
+use Rattle.demands.proofs.Refusals.{refusals}
 use Rattle.demands.proofs.Symbols.{symbol-rule}
 use Rattle.demands.proofs.Return.{return, one-frame}
 use Rattle.demands.proofs.Stores.{stores-hold, last-kept}
@@ -29,6 +30,7 @@ use Rattle.demands.proofs.Exceeded.{spans-exist, other-places, other-pa
 pub demands : Demands
 demands =
     record {
+      refusals = refusals;
       stepNumbers = step-numbers;
       symbols = symbol-rule;
       places = base-places;

@@ -1,3 +1,4 @@
+pub mod Refusals
 pub mod Symbols
 pub mod Return
 pub mod Stores

@@ -6,6 +6,7 @@ use Rattle.account.specs.statements.Kept.{KeptFromOrder}
 use Rattle.framing.specs.statements.Call.{BasePlaces}
 use Rattle.framing.specs.statements.Stream.{BlockRule}
 use Rattle.framing.specs.statements.Figures.{BenchFigures}
+use Rattle.demands.specs.statements.Refusals.{Refusals}
 use Rattle.demands.specs.statements.Symbols.{SymbolRule}
 use Rattle.demands.specs.statements.Return.{Return, UndamagedExist, OneFrame}
 use Rattle.demands.specs.statements.Stores.{StoresHold, LastKept}
@@ -19,7 +20,8 @@ use Rattle.demands.specs.statements.ReedSolomon.{SpansExist, SpansLabel,
 
 -- the demands over words, streams and captures, sentence by sentence
 pub record Demands : Type 0 where
-  -- demand 1: by which numbers a record is refused in a run
+  -- demand 1: the refusal list, number by number; and by which numbers a record is refused in a run
+  pub refusals : Refusals
   pub stepNumbers : StepNumbers
   -- demand 2: sent frames symbol for symbol; which symbols are exchanged; what their words carry; and the figures that 01 prints
   pub symbols : SymbolRule
