@@ -2,6 +2,7 @@
 
 use second::lanes::{LANES_BYTES, STORE_BYTES};
 use second::receive::receive_with;
+use second::run::examine_verdict;
 use second::send::send_with;
 use second::symbols::{bit_place, FRAME_SYMBOLS};
 use second::word::{Decoder, FRAME_WORDS};
@@ -17,6 +18,7 @@ extern "C" {
         input: *const u8, input_length: usize, store: *mut u8, store_length: usize, output: *mut u8, output_length: usize, flags: *mut u8,
         flags_length: usize,
     ) -> u32;
+    fn lr800_examine_verdict(capture: *const u8, capture_length: usize) -> u32;
 }
 
 type Lanes = [u8; LANES_BYTES];
@@ -116,6 +118,41 @@ fn row<I>(name: &str, inputs: &[I], mut rust: impl FnMut(&I, &mut Store) -> u32,
         ours = (ours.0.min(a), ours.1.max(a));
         theirs = (theirs.0.min(b), theirs.1.max(b));
     }
+    print_row(name, ours, theirs);
+}
+
+/// A capture: an order for these frames, no flagged word allowed, and the frames in their turn.
+fn capture(frames: &[Frame]) -> Vec<u8> {
+    let mut bytes = vec![0, 0, 0, 14, 1, 0];
+    for number in [0, frames.len() as u32, 0] {
+        bytes.extend(number.to_be_bytes());
+    }
+    for (number, frame) in frames.iter().enumerate() {
+        bytes.extend([0, 0, 0x18, 0x06, 1, 1]);
+        bytes.extend((number as u32).to_be_bytes());
+        bytes.extend(frame);
+    }
+    bytes
+}
+
+/// The same for whole captures, which both must say PASS of.
+fn row_examined(name: &str, frames: &[Frame]) {
+    let capture = capture(frames);
+    let (mut ours, mut theirs) = ((f64::MAX, 0f64), (f64::MAX, 0f64));
+    let timed = |best: &mut (f64, f64), verdict: &dyn Fn() -> u32| {
+        let start = Instant::now();
+        assert_eq!(verdict(), 1, "a capture that was measured does not pass");
+        let time = start.elapsed().as_secs_f64() * 1e6 / frames.len() as f64;
+        *best = (best.0.min(time), best.1.max(time));
+    };
+    for _ in 0..ROUNDS {
+        timed(&mut ours, &|| examine_verdict(black_box(&capture)));
+        timed(&mut theirs, &|| unsafe { lr800_examine_verdict(black_box(capture.as_ptr()), capture.len()) });
+    }
+    print_row(name, ours, theirs);
+}
+
+fn print_row(name: &str, ours: (f64, f64), theirs: (f64, f64)) {
     let ratio = theirs.0 / ours.0;
     println!("{name:36} {:7.2} to {:6.2} {:9.2} to {:6.2} {ratio:8.2}", ours.0, ours.1, theirs.0, theirs.1);
 }
@@ -156,4 +193,6 @@ fn main() {
             |frame, store| archive_receive(frame, store, black_box(&mut other_lanes), black_box(&mut other_flags)),
         );
     }
+    row_examined("examined clean", &clean);
+    row_examined("examined, two flips in every word", &two);
 }
