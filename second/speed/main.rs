@@ -1,14 +1,20 @@
-//! The archive beside this program, in one run: first both make the same calls, then each is timed. `run` links it with the archive's code.
+//! The archive beside this program, in one run: first both make the same calls, then each is timed, whole calls and stage by stage. `run` links it.
 
-use second::lanes::{LANES_BYTES, STORE_BYTES};
+use second::lanes::{deinterleave, interleave, lanes_of_words, permute, words, EXCHANGED, LANES_BYTES, STORE_BYTES};
 use second::receive::receive_with;
 use second::run::examine_verdict;
-use second::send::send_with;
-use second::symbols::{bit_place, FRAME_SYMBOLS};
-use second::word::{Decoder, FRAME_WORDS};
+use second::send::send;
+use second::symbols::{bit_place, frame, frame_words, wrong_pilots, FRAME_SYMBOLS, NO_LOCK};
+use second::word::{encode_frame, Decoder, FRAME_WORDS};
 use second::xorshift::Xorshift;
 use std::hint::black_box;
 use std::time::Instant;
+
+type Lanes = [u8; LANES_BYTES];
+type Store = [u8; STORE_BYTES];
+type Frame = [u8; FRAME_SYMBOLS];
+type Words = [u64; 2 * FRAME_WORDS];
+type Flags = [u8; FRAME_WORDS];
 
 extern "C" {
     fn lr800_send(
@@ -19,12 +25,17 @@ extern "C" {
         flags_length: usize,
     ) -> u32;
     fn lr800_examine_verdict(capture: *const u8, capture_length: usize) -> u32;
+    // the stages, as `run` exports them
+    fn stage_interleave(lanes: &Lanes, store: &mut Store, out: &mut Lanes);
+    fn stage_to_words(lanes: &Lanes, words: &mut Words);
+    fn stage_encode_frame(words: &mut Words);
+    fn stage_frame_from_words(words: &Words, frame: &mut Frame);
+    fn stage_locks(frame: *const u8, length: usize) -> u32;
+    fn stage_words_from_frame(frame: &Frame, words: &mut Words);
+    fn stage_decode_frame(words: &mut Words, flags: &mut Flags);
+    fn stage_to_lanes(words: &Words, lanes: &mut Lanes);
+    fn stage_deinterleave(lanes: &Lanes, store: &mut Store, out: &mut Lanes);
 }
-
-type Lanes = [u8; LANES_BYTES];
-type Store = [u8; STORE_BYTES];
-type Frame = [u8; FRAME_SYMBOLS];
-type Flags = [u8; FRAME_WORDS];
 
 fn archive_send(input: &Lanes, store: &mut Store, output: &mut Frame) -> u32 {
     unsafe { lr800_send(input.as_ptr(), input.len(), store.as_mut_ptr(), store.len(), output.as_mut_ptr(), output.len()) }
@@ -40,7 +51,7 @@ fn archive_receive(input: &Frame, store: &mut Store, output: &mut Lanes, flags: 
 
 const COMPARED: usize = 300;
 const TIMED: usize = 1000;
-const ROUNDS: usize = 7;
+const ROUNDS: usize = 15;
 
 fn random_bytes<const LENGTH: usize>(random: &mut Xorshift) -> [u8; LENGTH] {
     let mut bytes = [0; LENGTH];
@@ -53,7 +64,7 @@ fn frames(random: &mut Xorshift, inputs: &[Lanes], flips: impl Fn(&mut Xorshift)
     let mut store = [0; STORE_BYTES];
     let sent = |lanes: &Lanes| {
         let mut frame = [0; FRAME_SYMBOLS];
-        assert_eq!(send_with(false, lanes, &mut store, &mut frame), 0);
+        assert_eq!(send(lanes, &mut store, &mut frame), 0);
         for word in 0..FRAME_WORDS {
             let count = flips(random);
             let mut hit = 0u128;
@@ -76,7 +87,7 @@ fn compare_send(random: &mut Xorshift, inputs: &[Lanes]) {
     let mut theirs = ours;
     for input in inputs {
         let (mut a, mut b) = ([0x55; FRAME_SYMBOLS], [0xAA; FRAME_SYMBOLS]);
-        assert_eq!((send_with(false, input, &mut ours, &mut a), archive_send(input, &mut theirs, &mut b)), (0, 0), "sending is refused");
+        assert_eq!((send(input, &mut ours, &mut a), archive_send(input, &mut theirs, &mut b)), (0, 0), "sending is refused");
         assert!(a == b && ours == theirs, "sent frames or stores differ");
     }
 }
@@ -95,30 +106,37 @@ fn compare_receive(random: &mut Xorshift, decoder: &Decoder, frames: &[Frame], f
     }
 }
 
-/// One round: all inputs through one store, fresh at the first. Microseconds a frame, and the store.
-fn round<I>(inputs: &[I], call: &mut impl FnMut(&I, &mut Store) -> u32) -> (f64, Store) {
-    let mut store = [0; STORE_BYTES];
-    let mut answers = 0;
-    let start = Instant::now();
-    for input in inputs {
-        answers |= call(input, &mut store);
-    }
-    let time = start.elapsed();
-    assert_eq!(answers, 0, "a timed call is refused");
-    (time.as_secs_f64() * 1e6 / inputs.len() as f64, store)
-}
-
-/// Rust and archive in turn, round by round; the best round of each, the slowest, and the ratio of the best.
-fn row<I>(name: &str, inputs: &[I], mut rust: impl FnMut(&I, &mut Store) -> u32, mut archive: impl FnMut(&I, &mut Store) -> u32) {
+/// Rust and archive in turn, round by round, each over all items in their order and with a store that is fresh at the first; then the best round of each,
+/// the slowest, and the ratio of the best, in microseconds an item.
+fn row<I>(name: &str, items: &[I], mut rust: impl FnMut(&I, &mut Store), mut archive: impl FnMut(&I, &mut Store)) {
     let (mut ours, mut theirs) = ((f64::MAX, 0f64), (f64::MAX, 0f64));
+    fn round<I>(items: &[I], best: &mut (f64, f64), call: &mut impl FnMut(&I, &mut Store)) -> Store {
+        let mut store = [0; STORE_BYTES];
+        let start = Instant::now();
+        items.iter().for_each(|item| call(item, &mut store));
+        let time = start.elapsed().as_secs_f64() * 1e6 / items.len() as f64;
+        *best = (best.0.min(time), best.1.max(time));
+        store
+    }
     for _ in 0..ROUNDS {
-        let (a, store) = round(inputs, &mut rust);
-        let (b, other) = round(inputs, &mut archive);
-        assert!(store == other, "stores differ after a timed round");
-        ours = (ours.0.min(a), ours.1.max(a));
-        theirs = (theirs.0.min(b), theirs.1.max(b));
+        let store = round(items, &mut ours, &mut rust);
+        assert!(store == round(items, &mut theirs, &mut archive), "stores differ after a timed round");
     }
     print_row(name, ours, theirs);
+}
+
+/// A stage from items to results: compared over all items, then timed.
+fn stage<I, O: PartialEq + Copy>(
+    name: &str, items: &[I], blank: O, mut rust: impl FnMut(&I, &mut Store, &mut O), mut archive: impl FnMut(&I, &mut Store, &mut O),
+) {
+    let (mut ours, mut theirs) = ([0; STORE_BYTES], [0; STORE_BYTES]);
+    let (mut a, mut b) = (blank, blank);
+    for item in items {
+        rust(item, &mut ours, &mut a);
+        archive(item, &mut theirs, &mut b);
+        assert!(a == b && ours == theirs, "{name}: results or stores differ");
+    }
+    row(name, items, |item, store| rust(item, store, black_box(&mut a)), |item, store| archive(item, store, black_box(&mut b)));
 }
 
 /// A capture: an order for these frames, no flagged word allowed, and the frames in their turn.
@@ -135,7 +153,7 @@ fn capture(frames: &[Frame]) -> Vec<u8> {
     bytes
 }
 
-/// The same for whole captures, which both must say PASS of.
+/// Whole captures, which both must say PASS of.
 fn row_examined(name: &str, frames: &[Frame]) {
     let capture = capture(frames);
     let (mut ours, mut theirs) = ((f64::MAX, 0f64), (f64::MAX, 0f64));
@@ -157,6 +175,85 @@ fn print_row(name: &str, ours: (f64, f64), theirs: (f64, f64)) {
     println!("{name:36} {:7.2} to {:6.2} {:9.2} to {:6.2} {ratio:8.2}", ours.0, ours.1, theirs.0, theirs.1);
 }
 
+/// Each item made into another by the plain Rust, in order, with a store that is fresh at the first.
+fn made<I, O>(items: &[I], mut make: impl FnMut(&I, &mut Store) -> O) -> Vec<O> {
+    let mut store = [0; STORE_BYTES];
+    items.iter().map(|item| make(item, &mut store)).collect()
+}
+
+fn interleaved(lanes: &Lanes, store: &mut Store, out: &mut Lanes) {
+    let mut lanes = *lanes;
+    permute(&mut lanes, EXCHANGED);
+    interleave(&lanes, store, out);
+}
+
+fn deinterleaved(lanes: &Lanes, store: &mut Store, out: &mut Lanes) {
+    deinterleave(lanes, store, out);
+    permute(out, EXCHANGED);
+}
+
+fn sending_stages(inputs: &[Lanes]) {
+    let lanes = made(inputs, |input, store| {
+        let mut out = [0; LANES_BYTES];
+        interleaved(input, store, &mut out);
+        out
+    });
+    let plain = made(&lanes, |lanes, _| words(lanes));
+    let coded = made(&plain, |plain, _| {
+        let mut words = *plain;
+        encode_frame(&mut words);
+        words
+    });
+    stage("  permuted and interleaved", inputs, [0; LANES_BYTES], interleaved, |i, s, o| unsafe { stage_interleave(i, s, o) });
+    stage("  lanes to words", &lanes, [0; 2 * FRAME_WORDS], |i, _, o| *o = words(i), |i, _, o| unsafe { stage_to_words(i, o) });
+    // the words are copied first on both sides: parity is worked out in place
+    stage(
+        "  parity, with a copy of the words",
+        &plain,
+        [0; 2 * FRAME_WORDS],
+        |i, _, o| {
+            *o = *i;
+            encode_frame(o);
+        },
+        |i, _, o| {
+            *o = *i;
+            unsafe { stage_encode_frame(o) };
+        },
+    );
+    stage("  words to frame", &coded, [0; FRAME_SYMBOLS], |i, _, o| frame(i, o), |i, _, o| unsafe { stage_frame_from_words(i, o) });
+}
+
+fn receiving_stages(decoder: &Decoder, kind: &str, frames: &[Frame]) {
+    let received = made(frames, |frame, _| frame_words(frame));
+    let mended = made(&received, |received, _| {
+        let (mut words, mut flags) = (*received, [0; FRAME_WORDS]);
+        decoder.decode_frame(&mut words, &mut flags);
+        words
+    });
+    let lanes = made(&mended, |mended, _| lanes_of_words(mended));
+    if kind == "clean" {
+        stage("  lock", frames, 0, |i, _, o| *o = u32::from(wrong_pilots(i) < NO_LOCK), |i, _, o| *o = unsafe { stage_locks(i.as_ptr(), i.len()) });
+        stage("  frame to words", frames, [0; 2 * FRAME_WORDS], |i, _, o| *o = frame_words(i), |i, _, o| unsafe { stage_words_from_frame(i, o) });
+    }
+    stage(
+        &format!("  decoded, {kind}, with a copy"),
+        &received,
+        ([0; 2 * FRAME_WORDS], [0; FRAME_WORDS]),
+        |i, _, o| {
+            o.0 = *i;
+            decoder.decode_frame(&mut o.0, &mut o.1);
+        },
+        |i, _, o| {
+            o.0 = *i;
+            unsafe { stage_decode_frame(&mut o.0, &mut o.1) };
+        },
+    );
+    if kind == "clean" {
+        stage("  words to lanes", &mended, [0; LANES_BYTES], |i, _, o| *o = lanes_of_words(i), |i, _, o| unsafe { stage_to_lanes(i, o) });
+        stage("  deinterleaved and permuted", &lanes, [0; LANES_BYTES], deinterleaved, |i, s, o| unsafe { stage_deinterleave(i, s, o) });
+    }
+}
+
 fn main() {
     let mut random = Xorshift::new(800);
     let decoder = Decoder::new();
@@ -174,24 +271,23 @@ fn main() {
     println!("microseconds a frame: the best and the slowest of {ROUNDS} rounds of {TIMED} frames; the ratio of the best");
     println!("{:36} {:>17} {:>19} {:>8}", "", "Rust", "archive", "ratio");
     let (mut frame, mut other_frame) = ([0; FRAME_SYMBOLS], [0; FRAME_SYMBOLS]);
-    // The archive works the parity out bit by bit, so Rust is timed that way too.
-    for (name, by_bit) in [("sent", false), ("sent, Rust's parity bit by bit too", true)] {
-        row(
-            name,
-            &inputs,
-            |input, store| send_with(by_bit, input, store, black_box(&mut frame)),
-            |input, store| archive_send(input, store, black_box(&mut other_frame)),
-        );
-    }
+    row(
+        "sent",
+        &inputs,
+        |input, store| assert_eq!(send(input, store, black_box(&mut frame)), 0),
+        |input, store| assert_eq!(archive_send(input, store, black_box(&mut other_frame)), 0),
+    );
+    sending_stages(&inputs);
     let (mut lanes, mut other_lanes) = ([0; LANES_BYTES], [0; LANES_BYTES]);
     let (mut flags, mut other_flags) = ([0; FRAME_WORDS], [0; FRAME_WORDS]);
-    for (name, frames) in [("received clean", &clean), ("received, two flips in every word", &two)] {
+    for (name, kind, frames) in [("received clean", "clean", &clean), ("received, two flips in every word", "two flips", &two)] {
         row(
             name,
             frames,
-            |frame, store| receive_with(&decoder, frame, store, black_box(&mut lanes), black_box(&mut flags)),
-            |frame, store| archive_receive(frame, store, black_box(&mut other_lanes), black_box(&mut other_flags)),
+            |frame, store| assert_eq!(receive_with(&decoder, frame, store, black_box(&mut lanes), black_box(&mut flags)), 0),
+            |frame, store| assert_eq!(archive_receive(frame, store, black_box(&mut other_lanes), black_box(&mut other_flags)), 0),
         );
+        receiving_stages(&decoder, kind, frames);
     }
     row_examined("examined clean", &clean);
     row_examined("examined, two flips in every word", &two);

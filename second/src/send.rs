@@ -10,8 +10,8 @@ pub fn send(input: &[u8], store: &mut [u8], output: &mut [u8]) -> u32 {
     send_with(false, input, store, output)
 }
 
-/// The same with a choice of how the parity is worked out, for timing.
-pub fn send_with(parity_by_bit: bool, input: &[u8], store: &mut [u8], output: &mut [u8]) -> u32 {
+/// The same with a choice of how the parity is worked out: the tests go both ways.
+fn send_with(parity_by_bit: bool, input: &[u8], store: &mut [u8], output: &mut [u8]) -> u32 {
     let input: &[u8; LANES_BYTES] = match input.try_into() {
         Ok(input) => input,
         Err(_) => return 1,

@@ -2,9 +2,7 @@
 //!
 //! `files` gives each file whole, with its comments, as it stands below crates/.
 
-use crate::lanes::{
-    BLOCK_BYTES, FRAME_BLOCKS, KEPT_BLOCKS, ROWS, ROW_1_BLOCKS, ROW_2_BLOCKS, SYMBOL_BITS,
-};
+use crate::lanes::{BLOCK_BYTES, SYMBOL_BITS};
 use crate::symbols::{source, PILOTS, PILOT_COUNT};
 use crate::word::{only_bit, parity, remainder, split, INFORMATION_BITS, PARITY_BITS, WORD_BITS};
 
@@ -43,7 +41,22 @@ const OF_PROOFS: Lists = Lists {
     of_list: None,
 };
 
-static PAIRS: [Pair; 4] = [
+static PAIRS: [Pair; 5] = [
+    Pair {
+        folder: "bch",
+        comment: "The table of the parity. Written by the program `tables` of second/; \
+            proofs/Entries has its rule, by a test over the whole table.",
+        lists: OF_PROOFS,
+        tables: &[Table {
+            comment: "The remainder of byte b times x^16, at b.",
+            name: "BYTE_REMAINDERS",
+            element: "u16",
+            length: 256,
+            entry: |b| parity(b as u128).into(),
+            list: "byteRemainders",
+            line: 16,
+        }],
+    },
     Pair {
         folder: "decoder_tables",
         comment: "The tables of the decoder. Written by the program `tables` of second/; \
@@ -115,40 +128,19 @@ static PAIRS: [Pair; 4] = [
     },
     Pair {
         folder: "lanes",
-        comment: "The tables of the stages. Written by the program `tables` of second/; \
-            proofs/Entries has the rule of each, by a test over the whole table.",
+        comment: "The table of the masks. Written by the program `tables` of second/; \
+            proofs/Entries has its rule, by a test over the whole table.",
         lists: OF_PROOFS,
-        tables: &[
-            Table {
-                comment: "Where each of a lane's 51 blocks comes from when a frame is \
-                    interleaved: the 33 that come out, then the 18 that are kept.",
-                name: "SENDER",
-                element: "usize",
-                length: FRAME_BLOCKS + KEPT_BLOCKS,
-                entry: |b| block_before([0, ROW_1_BLOCKS, ROW_2_BLOCKS], b),
-                list: "senderSources",
-                line: 17,
-            },
-            Table {
-                comment: "The same when a frame is deinterleaved.",
-                name: "RECEIVER",
-                element: "usize",
-                length: FRAME_BLOCKS + KEPT_BLOCKS,
-                entry: |b| block_before([ROW_2_BLOCKS, ROW_1_BLOCKS, 0], b),
-                list: "receiverSources",
-                line: 17,
-            },
-            Table {
-                comment: "Which bits of byte c of a block are exchanged with the partner lane, \
-                    at 5 e + c for the set of places named e, which has 2^s for place s.",
-                name: "MASKS",
-                element: "u8",
-                length: 16 * BLOCK_BYTES,
-                entry: bits_of_places,
-                list: "masks",
-                line: 17,
-            },
-        ],
+        tables: &[Table {
+            comment: "Which bits of byte c of a block are exchanged with the partner lane, \
+                at 5 e + c for the set of places named e, which has 2^s for place s.",
+            name: "MASKS",
+            element: "u8",
+            length: 16 * BLOCK_BYTES,
+            entry: bits_of_places,
+            list: "masks",
+            line: 17,
+        }],
     },
     Pair {
         folder: "pilots",
@@ -173,31 +165,19 @@ static PAIRS: [Pair; 4] = [
     },
     Pair {
         folder: "mapper_tables",
-        comment: "The tables of the mapping. Written by the program `tables` of second/; \
-            proofs/Entries has the rule of each, by a test over the whole table.",
+        comment: "The table of the mapping. Written by the program `tables` of second/; \
+            proofs/Entries has its rule, by a test over the whole of it.",
         lists: OF_PROOFS,
-        tables: &[
-            Table {
-                comment: "What the byte b of four dibits of lane r, of four, puts into the bytes of symbols \
-                    l to l + 3, the first on top: at 1024 l + 256 r + b.",
-                name: "PARTS",
-                element: "u32",
-                length: 4 * 4 * 256,
-                entry: part_of_symbols,
-                list: "parts",
-                line: 8,
-            },
-            Table {
-                comment: "The four lanes' dibits in the byte x of symbol l, in fields of 16 bits, lane 0 on \
-                    top: at 256 l + x.",
-                name: "DIBITS",
-                element: "u64",
-                length: 4 * 256,
-                entry: dibits_of_symbol,
-                list: "dibits",
-                line: 8,
-            },
-        ],
+        tables: &[Table {
+            comment: "The four lanes' dibits in the byte x of symbol l, in fields of 16 bits, lane 0 on \
+                top: at 256 l + x.",
+            name: "DIBITS",
+            element: "u64",
+            length: 4 * 256,
+            entry: dibits_of_symbol,
+            list: "dibits",
+            line: 8,
+        }],
     },
 ];
 
@@ -309,26 +289,6 @@ fn two_behind(at: usize) -> u64 {
     })
 }
 
-/// The number before a stage of what is block b after it, where the rows hold so many blocks.
-fn block_before(rows: [usize; ROWS], b: usize) -> u64 {
-    let kept_from = |row: usize| FRAME_BLOCKS + rows[..row].iter().sum::<usize>();
-    // A row is a queue: what it keeps, oldest first, then the frame's blocks. From its front come as
-    // many as the frame has brought, and the rest is kept, newest first.
-    let in_row = |row: usize, n: usize| match n.checked_sub(rows[row]) {
-        None => kept_from(row) + rows[row] - 1 - n,
-        Some(turn) => ROWS * turn + row,
-    };
-    let before = if b < FRAME_BLOCKS {
-        in_row(b % ROWS, b / ROWS)
-    } else {
-        let row = (0..ROWS).rfind(|&row| kept_from(row) <= b);
-        let row = row.expect("a row");
-        let newest = FRAME_BLOCKS / ROWS + rows[row] - 1;
-        in_row(row, newest - (b - kept_from(row)))
-    };
-    before as u64
-}
-
 fn bits_of_places(at: usize) -> u64 {
     let (places, byte) = (at / BLOCK_BYTES, at % BLOCK_BYTES);
     (8 * byte..8 * byte + 8).fold(0, |mask, bit| {
@@ -344,17 +304,6 @@ fn turned(l: usize, bits: u64) -> u64 {
         .fold(0, |sum, place| sum << 1 | bits >> (1 - place % 2) & 1)
 }
 
-fn part_of_symbols(at: usize) -> u64 {
-    let (first, lane, byte) = (at / 1024, at / 256 % 4, at as u8);
-    (0..4).fold(0, |symbols, n| {
-        let l = first + n;
-        let t = (0..4).find(|&t| source(l, t).0 == lane);
-        let dibit = byte >> (6 - 2 * n) & 3;
-        let label = turned(l, dibit.into());
-        symbols << 8 | label << (6 - 2 * t.expect("each lane has a tributary"))
-    })
-}
-
 fn dibits_of_symbol(at: usize) -> u64 {
     let (l, symbol) = (at / 256, at as u8);
     (0..4).fold(0, |dibits, t| {
@@ -366,8 +315,7 @@ fn dibits_of_symbol(at: usize) -> u64 {
 #[cfg(test)]
 mod tests {
     use super::*;
-    use crate::lanes::{deinterleave, interleave, permute};
-    use crate::lanes::{KEPT_BYTES, LANES, LANES_BYTES, LANE_BYTES, STORE_BYTES};
+    use crate::lanes::{permute, LANES_BYTES};
     use crate::symbols::{frame, shuffle, FRAME_SYMBOLS, ROW_PAYLOAD, ROW_SYMBOLS};
     use crate::word::{encode_frame, join, FRAME_WORDS};
     use crate::xorshift::Xorshift;
@@ -379,16 +327,28 @@ mod tests {
         (0..table.length).map(table.entry).collect()
     }
 
+    fn by_long_division(mut rest: u128) -> u128 {
+        for power in (16..128).rev() {
+            if rest >> power & 1 == 1 {
+                rest ^= 0x14EAB << (power - 16);
+            }
+        }
+        rest
+    }
+
+    #[test]
+    fn byte_remainders_by_long_division() {
+        for (b, entry) in entries("BYTE_REMAINDERS").into_iter().enumerate() {
+            let product = (b as u128) << 16;
+            assert_eq!(u128::from(entry), by_long_division(product), "{b}");
+        }
+    }
+
     #[test]
     fn remainders_by_long_division() {
         for (at, entry) in entries("REMAINDERS").into_iter().enumerate() {
-            let mut rest = (at as u128 % 256) << (8 * (at / 256) + 16);
-            for power in (16..128).rev() {
-                if rest >> power & 1 == 1 {
-                    rest ^= 0x14EAB << (power - 16);
-                }
-            }
-            assert_eq!(u128::from(entry), rest, "{at}");
+            let product = (at as u128 % 256) << (8 * (at / 256) + 16);
+            assert_eq!(u128::from(entry), by_long_division(product), "{at}");
         }
     }
 
@@ -431,36 +391,6 @@ mod tests {
         assert_eq!(patterns, 8_001);
     }
 
-    type Stage = fn(&[u8; LANES_BYTES], &mut [u8; STORE_BYTES], &mut [u8; LANES_BYTES]);
-
-    #[test]
-    fn stages_move_blocks_by_the_tables() {
-        let stages: [(&str, Stage); 2] = [("SENDER", interleave), ("RECEIVER", deinterleave)];
-        for (name, stage) in stages {
-            // Each block has its number in each of its bytes.
-            let mut lanes = [0; LANES_BYTES];
-            for (n, byte) in lanes.iter_mut().enumerate() {
-                *byte = (n % LANE_BYTES / BLOCK_BYTES) as u8;
-            }
-            let mut store = [0; STORE_BYTES];
-            for (n, byte) in store.iter_mut().enumerate() {
-                *byte = (FRAME_BLOCKS + n % KEPT_BYTES / BLOCK_BYTES) as u8;
-            }
-            let mut out = [0xFF; LANES_BYTES];
-            stage(&lanes, &mut store, &mut out);
-            let table = entries(name);
-            for p in 0..LANES {
-                let out = out[LANE_BYTES * p..][..LANE_BYTES].chunks(BLOCK_BYTES);
-                let kept = store[KEPT_BYTES * p..][..KEPT_BYTES].chunks(BLOCK_BYTES);
-                let after: Vec<_> = out.chain(kept).collect();
-                assert_eq!(after.len(), table.len());
-                for (block, from) in after.into_iter().zip(&table) {
-                    assert_eq!(block, [*from as u8; BLOCK_BYTES], "{name}, lane {p}");
-                }
-            }
-        }
-    }
-
     #[test]
     fn masks_are_what_the_permutation_exchanges() {
         for (places, mask) in entries("MASKS").chunks(BLOCK_BYTES).enumerate() {
@@ -474,8 +404,8 @@ mod tests {
     }
 
     #[test]
-    fn parts_make_the_frame() {
-        let parts = entries("PARTS");
+    fn dibits_are_those_of_the_words() {
+        let dibits = entries("DIBITS");
         let mut random = Xorshift::new(81);
         let mut words = [0; 2 * FRAME_WORDS];
         words.fill_with(|| random.next_u64());
@@ -485,31 +415,16 @@ mod tests {
         let rows = symbols.chunks(ROW_SYMBOLS).zip(words.chunks(8));
         for (row, (symbols, four)) in rows.enumerate() {
             let g = row % 8;
-            let bytes = [0, 1, 2, 3].map(|r| {
-                let word = shuffle(4 * g + r, join(four[2 * r], four[2 * r + 1]));
-                (word << 2).to_be_bytes()
-            });
-            for (c, symbols) in symbols[1..].chunks(4).enumerate() {
-                let first = (ROW_PAYLOAD * g + 4 * c) % 4;
-                let part = |r: usize| parts[1024 * first + 256 * r + usize::from(bytes[r][c])];
-                let made = (0..4).fold(0, |sum, r| sum | part(r)) as u32;
-                // The last byte of a word has three dibits only.
-                assert_eq!(made.to_be_bytes()[..symbols.len()], *symbols);
+            let words =
+                [0, 1, 2, 3].map(|r| shuffle(4 * g + r, join(four[2 * r], four[2 * r + 1])));
+            for (j, symbol) in symbols[1..].iter().enumerate() {
+                let l = (ROW_PAYLOAD * g + j) % 4;
+                let held = dibits[256 * l + usize::from(*symbol)];
+                for (r, word) in words.iter().enumerate() {
+                    let dibit = (word >> (124 - 2 * j)) as u64 & 3;
+                    assert_eq!(held >> (48 - 16 * r) & 0xFFFF, dibit);
+                }
             }
-        }
-    }
-
-    #[test]
-    fn dibits_undo_parts() {
-        let parts = entries("PARTS");
-        for (at, dibits) in entries("DIBITS").into_iter().enumerate() {
-            let (l, symbol) = (at / 256, at as u64 % 256);
-            let made = (0..4).fold(0, |sum, r| {
-                let dibit = (dibits >> (48 - 16 * r)) as u16;
-                assert!(dibit < 4);
-                sum | parts[1024 * l + 256 * r + (usize::from(dibit) << 6)]
-            });
-            assert_eq!(made, symbol << 24);
         }
     }
 }

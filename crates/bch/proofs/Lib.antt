@@ -1,4 +1,7 @@
 pub mod Remainder
+pub mod Lists
+pub mod Entries
+pub mod Folding
 pub mod Sent
 pub mod Theorems
 pub mod Determined

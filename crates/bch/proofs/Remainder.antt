@@ -2,9 +2,9 @@
 -- Assumes nothing.
 use mathlib.Core.Path.{_≡_, refl, sym, ap, ap₂, _∙_, subst}
 use mathlib.Core.Logic.{_⊎_, inl, inr}
-use Prim.Native.Nat.{ℕ, zero, suc, _+_, _-_, _*_, _/_, _%_, _^_, _<_, _≤_}
+use Prim.Native.Nat.{ℕ, zero, suc, _+_, _*_, _/_, _%_, _^_, _<_, _≤_}
 use native.Mathlib.Nat.{mod-lt, add-zero, zero-add, zero-mul, add-suc, suc-add, pow-suc, div-add-mod', div-div-eq-div-mul, div-eq-of-lt, div-one, mul-comm}
-use native.Mathlib.Nat.{mul-div-cancel, mul-mod-left}
+use native.Mathlib.Nat.{add-comm, mul-div-cancel, mul-mod-left}
 use native.Mathlib.Numerals.{add-one}
 use native.Mathlib.Omega.{arith}
 use lib.Arith.{digits-div, digits-mod, lt-one}
@@ -95,6 +95,13 @@ feed-append r j (suc k) h l b =
     let l′ : l / 2 < 2 ^ k = omega arith in
     rw (add-suc j k, block-half h k l, block-odd h k l) (ap (λ (x : ℕ). stepOf x (l % 2)) (feed-append r j k h (l / 2) l′))
 
+-- zeros fed after zeros, which may be exchanged
+pub feed-zeros : (r j k : ℕ) → feedOf (feedOf r j 0) k 0 ≡ feedOf r (j + k) 0
+feed-zeros r j k = let z : 0 * 2 ^ k + 0 ≡ 0 = omega arith in feed-append r j k 0 0 (pow-pos k) ∙ ap (feedOf r (j + k)) z
+
+pub feed-swap : (r j k : ℕ) → feedOf (feedOf r j 0) k 0 ≡ feedOf (feedOf r k 0) j 0
+feed-swap r j k = feed-zeros r j k ∙ ap (λ (n : ℕ). feedOf r n 0) (add-comm j k) ∙ sym (feed-zeros r k j)
+
 -- nothing is reduced while what is fed has no more than 16 bits
 step-plain : (r b : ℕ) → r < 32768 → stepOf r b ≡ r * 2 + b
 unfolding stepOf
@@ -110,9 +117,25 @@ feed-plain r (suc k) n h l =
     let f : r * 2 ^ suc k ≡ r * (2 ^ k * 2) = ap (λ (x : ℕ). r * x) (pow-suc 2 k) in
     ap (λ (x : ℕ). stepOf x (n % 2)) e ∙ step-plain (r * 2 ^ k + n / 2) (n % 2) (omega arith) ∙ omega arith
 
+-- a power of x below x^16
+pub feed-one : (i : ℕ) → i < 16 → feedOf 1 i 0 ≡ 2 ^ i
+feed-one i h =
+    let small : 2 ^ i * 2 ≤ 2 ^ 16 = rw (← pow-suc 2 i) (pow-mono h) in
+    let one : 1 * 2 ^ i + 0 ≡ 2 ^ i = omega arith in
+    feed-plain 1 i 0 (omega arith) (pow-pos i) ∙ one
+
 -- 16 bits are their own remainder
 pub remainder-own : (p : ℕ) → p < 65536 → remainder 16 p ≡ p
 remainder-own p h = feed-plain 0 16 p (lit≤ tt) h ∙ zero-add p
+
+pub remainder-low : (n : ℕ) → remainder 16 n ≡ n % 65536
+remainder-low n = sym (feed-low 0 16 n) ∙ remainder-own (n % 65536) (mod-lt n (lit< tt))
+
+-- a byte times x^16
+pub remainder-byte : (b : ℕ) → b < 256 → remainder 24 (b * 2 ^ 16) ≡ feedOf b 16 0
+remainder-byte b h =
+    let z : b * 2 ^ 16 ≡ b * 2 ^ 16 + 0 = omega arith in
+    ap (remainder 24) z ∙ sym (feed-append 0 8 16 b 0 (lit< tt)) ∙ ap (λ (x : ℕ). feedOf x 16 0) (feed-plain 0 8 b (lit≤ tt) h ∙ zero-add b)
 
 pub remainder-zero : (k : ℕ) → remainder k 0 ≡ 0
 unfolding feedOf stepOf
@@ -125,17 +148,20 @@ unfolding feedOf
 remainder-lead j zero n h = rw (lt-one h, zero-add) (remainder-zero j)
 remainder-lead j (suc k) n h = rw suc-add (ap (λ (r : ℕ). stepOf r (n % 2)) (remainder-lead j k (n / 2) (omega arith)))
 
--- the d bits above the k low ones are added at their place
+-- what the d bits above the k low ones leave is added at their place
+pub remainder-cut : (d k n : ℕ) → remainder (d + k) n ≡ bitXor (remainder k n) (feedOf (remainder d (n / 2 ^ k)) k 0)
+remainder-cut d k n =
+    let r : ℕ = remainder d (n / 2 ^ k) in
+    feed-split 0 d k n ∙ ap (feedOf r k) (sym (xor-zero-r n)) ∙ feed-xor 0 r k n 0 (lit< tt) (remainder-lt d (n / 2 ^ k))
+
+-- and up to 16 bits leave themselves
 pub remainder-above : (d k n : ℕ) → d ≤ 16 → remainder (d + k) n ≡ bitXor (remainder k n) (feedOf (n / 2 ^ k % 2 ^ d) k 0)
 remainder-above d k n h =
     let b : ℕ = n / 2 ^ k % 2 ^ d in
-    let lt : b < 2 ^ d = mod-lt (n / 2 ^ k) (pow-pos d) in
     let room : 2 ^ d ≤ 65536 = pow-mono h in
     let fits : (0 + 1) * 2 ^ d ≤ 65536 = omega arith in
-    let small : b < 65536 = omega arith in
-    feed-split 0 d k n
-    ∙ ap (λ (x : ℕ). feedOf x k n) (sym (feed-low 0 d (n / 2 ^ k)) ∙ feed-plain 0 d b fits lt ∙ rw (zero-mul) (zero-add b))
-    ∙ ap (feedOf b k) (sym (xor-zero-r n)) ∙ feed-xor 0 b k n 0 (lit< tt) small
+    let plain : remainder d b ≡ b = feed-plain 0 d b fits (mod-lt (n / 2 ^ k) (pow-pos d)) ∙ rw (zero-mul) (zero-add b) in
+    remainder-cut d k n ∙ ap (λ (x : ℕ). bitXor (remainder k n) (feedOf x k 0)) (sym (feed-low 0 d (n / 2 ^ k)) ∙ plain)
 
 remainder-double : (k n : ℕ) → remainder (suc k) (n * 2) ≡ stepOf (remainder k n) 0
 unfolding feedOf

@@ -9,11 +9,8 @@ use lib.Bits.{bitXor, xor-block, xor-lt, xor-self, xor-shifted}
 use Rattle.bits.proofs.Xor.{xor-zero-eq}
 use Rattle.bch.specs.definitions.Code.{remainder, parityOf, coded}
 use Rattle.bch.specs.statements.Code.{SentIsCode}
-use Rattle.bch.proofs.Remainder.{remainder-lt, remainder-xor, remainder-own, remainder-lead, remainder-code, remainder-code-xor}
-
--- 16 bits that leave no remainder are 0
-no-parity : (p : ℕ) → p < 65536 → remainder 126 p ≡ p
-no-parity p h = remainder-lead 110 16 p h ∙ remainder-own p h
+use Rattle.bch.proofs.Remainder.{remainder-lt, remainder-xor, remainder-code, remainder-code-xor}
+use Rattle.bch.proofs.Sent.{parity-own}
 
 pub sent-is-code : SentIsCode
 unfolding coded parityOf
@@ -28,7 +25,7 @@ sent-is-code m h = (
       ap (λ (x : ℕ). bitXor x (m * 2 ^ 16 + p)) split ∙ xor-block 16 m m (c % 2 ^ 16) p (mod-lt c (lit< tt)) small
       ∙ ap (λ (x : ℕ). x * 2 ^ 16 + r) (xor-self m) ∙ zero-add r in
       let zero : r ≡ 0 =
-      sym (no-parity r (xor-lt 16 (c % 2 ^ 16) p (mod-lt c (lit< tt)) small)) ∙ ap (remainder 126) (sym low)
+      sym (parity-own r (xor-lt 16 (c % 2 ^ 16) p (mod-lt c (lit< tt)) small)) ∙ ap (remainder 126) (sym low)
       ∙ remainder-code-xor (m * 2 ^ 16 + p) C ∙ none in
       xor-zero-eq c (m * 2 ^ 16 + p) (low ∙ zero),
 )
@@ -43,4 +40,4 @@ sent-is-code m h = (
     fits = digits-lt h small
 
     none : remainder 126 (m * 2 ^ 16 + p) ≡ 0
-    none = ap (remainder 126) (sym (xor-shifted m 16 p small)) ∙ remainder-xor 126 (m * 2 ^ 16) p ∙ ap (bitXor p) (no-parity p small) ∙ xor-self p
+    none = ap (remainder 126) (sym (xor-shifted m 16 p small)) ∙ remainder-xor 126 (m * 2 ^ 16) p ∙ ap (bitXor p) (parity-own p small) ∙ xor-self p

@@ -1,51 +1,106 @@
 // The word code BCH(126,110): the parity of one word, and of the 384 words of a frame in one call.
 // A word is two numbers: hi has bits 0 to 61 in its 62 low bits, lo has bits 62 to 125. Bits 0 to 109 are the information, the rest is parity.
 ghost use mathlib.Core.Path.{_≡_};
-ghost use Prim.Native.Nat.{_<_, _≤_};
+ghost use Prim.Native.Nat.{_+_, _*_, _%_, _^_, _<_, _≤_};
 ghost use lib.ListN.{length};
 ghost use Rattle.bits.specs.definitions.Words.{wordOf};
-ghost use Rattle.bch.specs.definitions.Code.{stepOf, feedOf, parityOf};
+ghost use Rattle.bch.specs.definitions.Code.{remainder, parityOf};
 ghost use Rattle.bch.specs.definitions.Word.{informationOf, codedFrame};
+ghost use Rattle.bch.specs.private.Tables.{IsByteRemainders};
+ghost use Rattle.bch.specs.private.Folded.{FoldedWords};
 
-// One more coefficient below a remainder.
-fn step(r: u64, b: u64) -> u64
-    requires { ⌜ (r < 65536) × (b < 2) ⌝ }
-    ensures { λ v. ⌜ v ≡ stepOf r b ⌝ }
+mod tables;
+
+// The remainders of bytes times x^16.
+fn byte_remainders() -> [u16; 256]
+    ensures { λ t. ⌜ IsByteRemainders t ⌝ }
 {
-    let v = r * 2 + b;
-    if r < 32768 {
-        return v;
-    }
-    v ^ 0x14EAB
+    tables::BYTE_REMAINDERS
 }
 
-// The n low bits of w below a remainder, bit by bit.
-fn feed(start: u64, n: u64, w: u64) -> u64
-    requires { ⌜ (start < 65536) × (n ≤ 64) ⌝ }
-    ensures { λ v. ⌜ (v ≡ feedOf start n w) × (v < 65536) ⌝ }
+// A word in 64 bits with the same remainder: x^64 has that of 1 + x^6 + x^9 + x^20 + x^31, and x^95 that of 1 + x + x^4 + x^26 + x^30.
+fn fold_upper(hi: u64, lo: u64) -> u64
+    ensures { λ v. ⌜ remainder 64 v ≡ remainder 126 (wordOf hi lo) ⌝ }
 {
-    let mut r = start;
-    let mut k = n;
-    while 0 < k {
-        k -= 1;
-        r = step(r, (w >> k) % 2);
-    }
-    r
+    let a = hi % bits::TWO_31;
+    let b = hi % bits::TWO_62 / bits::TWO_31;
+    let v = lo ^ a ^ (a << 6) ^ (a << 9) ^ (a << 20) ^ (a << 31);
+    v ^ b ^ (b << 1) ^ (b << 4) ^ (b << 26) ^ (b << 30)
+}
+
+// The same in the 48 low bits, those above them being done with: x^48 has the remainder of 1 + x^2 + x^9 + x^15 + x^24.
+fn fold_top(v: u64) -> u64
+    ensures { λ r. ⌜ remainder 48 r ≡ remainder 64 v ⌝ }
+{
+    let a = v >> 48;
+    v ^ a ^ (a << 2) ^ (a << 9) ^ (a << 15) ^ (a << 24)
+}
+
+// A word in the 48 low bits of a number, with the same remainder.
+fn folded(hi: u64, lo: u64) -> u64
+    ensures { λ v. ⌜ remainder 48 v ≡ remainder 126 (wordOf hi lo) ⌝ }
+{
+    fold_top(fold_upper(hi, lo))
+}
+
+// The remainder of the low byte of b times x^16.
+fn byte_remainder(t: &[u16; 256], b: u64) -> u64
+    requires { ⌜ IsByteRemainders (now t) ⌝ }
+    ensures { λ v. ⌜ (v ≡ remainder 24 (b % 256 * 2 ^ 16)) × (v < 65536) ⌝ }
+{
+    let i = (b % 256) as usize;
+    bits::wide16(t[i])
+}
+
+// The 24 + n low bits of v in 16 + n, with the same remainder: what the top byte leaves is added two bytes below it.
+fn fold_byte(t: &[u16; 256], n: u64, v: u64) -> u64
+    requires { ⌜ IsByteRemainders (now t) ⌝ }
+    requires { ⌜ n ≤ 24 ⌝ }
+    ensures { λ r. ⌜ remainder (16 + n) r ≡ remainder (24 + n) v ⌝ }
+{
+    let r = byte_remainder(t, v >> (16 + n));
+    v ^ (r << n)
+}
+
+// The remainder of the 48 low bits of v, byte by byte from the top.
+fn remainder_by_bytes(t: &[u16; 256], v: u64) -> u64
+    requires { ⌜ IsByteRemainders (now t) ⌝ }
+    ensures { λ r. ⌜ r ≡ remainder 48 v ⌝ }
+{
+    let c = fold_byte(t, 24, v);
+    let d = fold_byte(t, 16, c);
+    let e = fold_byte(t, 8, d);
+    let f = fold_byte(t, 0, e);
+    f % 65536
 }
 
 // The parity of a word's information; the word's own parity bits are not looked at.
 pub fn parity(hi: u64, lo: u64) -> u64
     ensures { λ r. ⌜ r ≡ parityOf (informationOf (wordOf hi lo)) ⌝ }
 {
-    // the first 16 coefficients are their own remainder
-    let top = hi % bits::TWO_62 / bits::TWO_46;
-    let upper = feed(top, 46, hi);
-    feed(upper, 64, lo / 65536 * 65536)
+    let t = byte_remainders();
+    let v = folded(hi, lo / 65536 * 65536);
+    remainder_by_bytes(&t, v)
 }
 
-// Each word of a frame gets the parity of its information.
-fn encode_words(words: &mut [u64])
-    requires { ⌜ length (now words) ≡ 768 ⌝ }
+// Each word of a frame folded.
+fn fold_words(words: &[u64], out: &mut [u64])
+    requires { ⌜ (length (now words) ≡ 768) × (length (now out) ≡ 384) ⌝ }
+    ensures { λ _. ⌜ FoldedWords 384 (now (words .entry)) (now (out .exit)) ⌝ }
+{
+    let mut i: usize = 0;
+    while i < 384 {
+        let at = 2 * i;
+        out[i] = folded(words[at], words[at + 1]);
+        i += 1;
+    }
+}
+
+// Each word of a frame gets the parity of its information: a word and its remainder make a code word, whatever parity bits stood there.
+fn add_parity(t: &[u16; 256], folds: &[u64], words: &mut [u64])
+    requires { ⌜ IsByteRemainders (now t) ⌝ }
+    requires { ⌜ (length (now folds) ≡ 384) × (length (now words) ≡ 768) ⌝ }
+    requires { ⌜ FoldedWords 384 (now words) (now folds) ⌝ }
     ensures { λ _. ⌜ now (words .exit) ≡ codedFrame (now (words .entry)) ⌝ }
 {
     let mut i: usize = 0;
@@ -53,16 +108,19 @@ fn encode_words(words: &mut [u64])
         let at = 2 * i;
         let hi = words[at];
         let lo = words[at + 1];
-        let p = parity(hi, lo);
+        let r = remainder_by_bytes(t, folds[i]);
         words[at] = hi % bits::TWO_62;
-        words[at + 1] = lo / 65536 * 65536 + p;
+        words[at + 1] = lo ^ r;
         i += 1;
     }
 }
 
-// The same over the frame's array, which asks no length.
+// The words of a frame, each with the parity of its information. All are folded first, which is quicker than word by word.
 pub fn encode_frame(words: &mut [u64; 768])
     ensures { λ _. ⌜ now (words .exit) ≡ codedFrame (now (words .entry)) ⌝ }
 {
-    encode_words(words);
+    let t = byte_remainders();
+    let mut folds = [0u64; 384];
+    fold_words(words, &mut folds);
+    add_parity(&t, &folds, words);
 }

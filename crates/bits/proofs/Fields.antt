@@ -1,14 +1,12 @@
--- The bits of a byte string: its fields, its bytes, the string made of given bits, and the loop that reads a number from its bytes.
+-- The bits of a byte string: its fields, its bytes, and the string made of given bits.
 -- Assumes nothing.
 use mathlib.Core.Path.{_≡_, refl, sym, ap, _∙_}
 use mathlib.Core.List.{List}
-use Prim.Native.Nat.{ℕ, zero, suc, _+_, _*_, _/_, _%_, _^_, _≤_, _<_, zero-le}
-use native.Mathlib.Nat.{add-assoc, lt-of-lt-of-le}
+use Prim.Native.Nat.{ℕ, zero, suc, _+_, _*_, _/_, _%_, _^_, _≤_, _<_}
+use native.Mathlib.Nat.{add-assoc}
 use native.Mathlib.Decide.{decLt}
-use native.Mathlib.Numerals.{add-one}
 use native.Mathlib.Omega.{arith}
 use lib.ListN.{length, getD, List·getD-eq-default}
-use lib.Pow.{pow-mono}
 use Rattle.bits.specs.definitions.Bits.{value, number, bitOf, bitAt, fieldAt, bytes, AllBytes}
 use Rattle.bits.proofs.Tabulate.{length-tabulate, getD-tabulate, tabulate-cong, is-tabulate}
 use Rattle.bits.proofs.Value.{value-cong, value-lt, value-append, value-top, value-low, bit-lt, bit-number, number-bits}
@@ -113,29 +111,3 @@ module _ (n : ℕ) (f : ℕ → ℕ) where
         at : (m : ℕ) → Dec (m < n) → getD (bytes n f) m 0 < 256
         at m (yes h) = rw (getD-bytes m h) (value-lt 2 8 _ (λ q l. bit (8 * m + q) (omega arith)))
         at m (no h) = let out : length (bytes n f) ≤ m = rw length-bytes (omega arith) in rw List·getD-eq-default (omega arith)
-
--- A loop that reads n bytes from place o on: `while j < n { v = v * 256 + s[o + j]; j += 1 }`. `Reading` is its invariant.
-pub record Reading (s : List ℕ) (o n j v : ℕ) : Type 0 where
-  pub upto : j ≤ n
-  pub bytes : AllBytes s
-  pub is : v ≡ fieldAt s (8 * o) (8 * j)
-
-module _ {s : List ℕ} {o n : ℕ} where
-  pub reading-start : AllBytes s → Reading s o n 0 0
-  unfolding fieldAt value
-  reading-start B = record { upto = zero-le; bytes = B; is = refl }
-
-  pub reading-step : {j v w : ℕ} → Reading s o n j v → j < n → w ≡ getD s (o + j) 0 → Reading s o n (j + 1) (v * 256 + w)
-  reading-step {j} {v} {w} R h e =
-      record {
-        upto = omega arith;
-        bytes = R .bytes;
-        is = rw (add-one, field-more s (R .bytes) o j) (λ k. R .is k * 256 + e k);
-      }
-
-  -- what is read of at most k bytes
-  pub reading-lt : {j v : ℕ} (k : ℕ) → Reading s o n j v → j ≤ k → v < 2 ^ (8 * k)
-  reading-lt {j} {v} k R h = rw (R .is) (lt-of-lt-of-le (field-lt s (8 * o) (8 * j)) (pow-mono (omega arith)))
-
-  pub reading-done : {j v : ℕ} → Reading s o n j v → n ≤ j → v ≡ fieldAt s (8 * o) (8 * n)
-  reading-done {j} {v} R h = let e : j ≡ n = omega arith in rw e at (R .is)

@@ -14,7 +14,7 @@ use lib.ListN.{length, getD, set, length-set}
 use lib.Seq.{getD-set-same, getD-set-other}
 use Rattle.bits.specs.private.Joins.{Put}
 use Rattle.bits.specs.definitions.Bits.{AllBytes}
-use Rattle.bits.proofs.Value.{value-cong, value-digits}
+use Rattle.bits.proofs.Value.{value-cong, value-digit, value-digits}
 use Rattle.bits.proofs.Fields.{bytes-field}
 
 module _ (w : ℕ) where
@@ -45,7 +45,7 @@ pub record Putting (n v o : ℕ) (d l : List ℕ) (j : ℕ) : Type 0 where
   pub after : (m : ℕ) → o + j ≤ m → getD l m 0 ≡ getD d m 0
   pub digit : (i : ℕ) → i < j → getD l (o + i) 0 ≡ v / 2 ^ (8 * (n - (i + 1))) % 256
 
-byte-pow : (k : ℕ) → 2 ^ (8 * k) ≡ 256 ^ k
+pub byte-pow : (k : ℕ) → 2 ^ (8 * k) ≡ 256 ^ k
 byte-pow zero = refl
 byte-pow (suc k) = rw (mul-suc, pow-add, pow-suc 256 k, byte-pow k)
 
@@ -108,3 +108,9 @@ module _ {n v o : ℕ} {d : List ℕ} where
       digit i b =
           let same : n - (i + 1) ≡ n - 1 - i = omega arith in
           rw (← same, ← byte-pow) (P .digit i (omega arith))
+
+-- each byte of what was put
+pub put-byte : {n v o : ℕ} {d l : List ℕ} → Put n v o d l → (i : ℕ) → i < n → getD l (o + i) 0 ≡ v / 2 ^ (8 * (n - 1 - i)) % 256
+put-byte {n} {v} {o} {d} {l} P i h =
+    sym (value-digit 256 n (λ (k : ℕ). getD l (o + k) 0) (λ k _. P .bytes .byte (o + k)) i h)
+    ∙ rw byte-pow (ap (λ (x : ℕ). x / 256 ^ (n - 1 - i) % 256) (bytes-field l (P .bytes) o n ∙ P .is))

@@ -12,7 +12,7 @@ use lib.Arith.{digits-lt}
 use lib.Dec.{eqb, lit<}
 use lib.Pow.{shr-lt}
 use Rattle.bits.specs.definitions.Words.{wordOf, wordAt, halfOf, rowOf}
-use Rattle.bits.proofs.Tabulate.{getD-tabulate, length-tabulate, tabulate-cong}
+use Rattle.bits.proofs.Tabulate.{getD-tabulate, tabulate-cong}
 use Rattle.bits.proofs.Filling.{Filling, filling-start, filling-step, filling-rest, filling-done}
 
 half-upper : (f : ℕ → ℕ) (i : ℕ) → f i / 2 ^ 64 ≡ halfOf f (2 * i)
@@ -52,10 +52,6 @@ unfolding halfOf
 row-cong n f g h =
     tabulate-cong (2 * n) (halfOf f) (halfOf g)
     (λ j l. ap (λ (v : ℕ). cond (eqb (j % 2) 0) (v / 2 ^ 64) (v % 2 ^ 64)) (h (j / 2) (omega arith)))
-
--- and two numbers a word
-pub row-long : (n : ℕ) (f : ℕ → ℕ) → length (rowOf n f) ≡ 2 * n
-row-long n f = length-tabulate (2 * n) (halfOf f)
 
 -- ---- a loop over a row's words, `while i < n { let at = 2 * i; .. s[at] = hi; s[at + 1] = lo; i += 1 }`: the measure is n - i
 

@@ -1,20 +1,22 @@
-// Bits, words and rows, and the laws of them that every other crate cites. The code is what widens a number or copies bytes without a question asked.
+// Bits, words and rows, and the laws of them that every other crate cites. The code is what changes a number's width or copies bytes without a question asked.
 ghost use mathlib.Core.Path.{_≡_};
 ghost use mathlib.Core.Logic.{_⊎_};
-ghost use Prim.Native.Nat.{_^_, _<_, _≤_};
+ghost use Prim.Native.Nat.{_%_, _^_, _<_, _≤_};
 ghost use lib.ListN.{length};
 ghost use Rattle.bits.specs.definitions.Bits.{copied};
 
 // Powers of two by which numbers are cut, as the definitions write them: 2^24 and so on.
 pub const TWO_24: u64 = 1 << 24;
 
+pub const TWO_31: u64 = 1 << 31;
+
 pub const TWO_32: u64 = 1 << 32;
 
-pub const TWO_46: u64 = 1 << 46;
+pub const TWO_40: u64 = 1 << 40;
 
 pub const TWO_48: u64 = 1 << 48;
 
-pub const TWO_55: u64 = 1 << 55;
+pub const TWO_56: u64 = 1 << 56;
 
 pub const TWO_60: u64 = 1 << 60;
 
@@ -39,6 +41,13 @@ pub fn wide32(x: u32) -> u64
     ensures { λ r. ⌜ (r ≡ x) × (r < 2 ^ 32) ⌝ }
 {
     x as u64
+}
+
+// The lowest byte of a number.
+pub fn low_byte(x: u64) -> u8
+    ensures { λ r. ⌜ r ≡ x % 256 ⌝ }
+{
+    (x % 256) as u8
 }
 
 // The first n bytes of from over those of to.

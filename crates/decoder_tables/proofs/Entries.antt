@@ -4,11 +4,10 @@ use mathlib.Core.Path.{_≡_, refl, sym, ap, ap₂, _∙_}
 use mathlib.Core.Bool.{Bool, _&&_}
 use mathlib.Core.List.{List, [], _++_, map}
 use Prim.Native.Nat.{ℕ, zero, suc, _+_, _-_, _*_, _/_, _%_, _^_, _<_}
-use native.Mathlib.Nat.{add-comm, not-suc-le-zero}
+use native.Mathlib.Nat.{not-suc-le-zero}
 use native.Mathlib.Omega.{arith}
 use lib.Dec.{T, eqb, eqb→eq, ltb, ltb→lt}
 use lib.ListN.{length, getD, List·getD-append, List·getD-map}
-use lib.Pow.{pow-pos, pow-lt}
 use lib.Seq.{getD-append-add}
 use lib.Bits.{bitXor, xor-lt, xor-mod, xor-shr}
 use Rattle.bits.proofs.Xor.{xor-four}
@@ -17,7 +16,7 @@ use Rattle.bits.proofs.Sums.{sums, sumAt, sums-long, sums-at, sum-xor, sums-lin
 use Rattle.bch.specs.definitions.Code.{stepOf, feedOf, remainder}
 use Rattle.decoder_tables.specs.private.Tables.{column, IsRemainders, IsColumns, IsSingleBits, Finds, locatedPair, roundOf, valuesOf, risingOf}
 use Rattle.decoder_tables.specs.declared.Pair.{Pair}
-use Rattle.bch.proofs.Remainder.{feed-xor, feed-plain, feed-append, remainder-lt, remainder-zero, remainder-power}
+use Rattle.bch.proofs.Remainder.{feed-xor, feed-zeros, feed-swap, feed-one, remainder-lt, remainder-zero, remainder-power}
 use Rattle.decoder_tables.proofs.Lists.{remainders, field, log, ratio, columns, singleBits}
 
 -- ---- `REMAINDERS`: fourteen tables of sums of eight powers of x, each above those of the table before it
@@ -34,16 +33,8 @@ feed-none : (r w : ℕ) → feedOf r 0 w ≡ r
 unfolding feedOf
 feed-none r w = refl
 
--- zeros fed after zeros
-feed-zeros : (r j k : ℕ) → feedOf (feedOf r j 0) k 0 ≡ feedOf r (j + k) 0
-feed-zeros r j k = let z : 0 * 2 ^ k + 0 ≡ 0 = omega arith in feed-append r j k 0 0 (pow-pos k) ∙ ap (feedOf r (j + k)) z
-
 power-feed : (n i : ℕ) → i < 8 → feedOf (feedOf 1 n 0) i 0 ≡ feedOf (2 ^ i) n 0
-power-feed n i h =
-    let small : 2 ^ i < 2 ^ 8 = pow-lt h in
-    let one : 1 * 2 ^ i + 0 ≡ 2 ^ i = omega arith in
-    let plain : feedOf 1 i 0 ≡ 2 ^ i = feed-plain 1 i 0 (omega arith) (pow-pos i) ∙ one in
-    feed-zeros 1 n i ∙ ap (λ (k : ℕ). feedOf 1 k 0) (add-comm n i) ∙ sym (feed-zeros 1 i n) ∙ ap (λ (r : ℕ). feedOf r n 0) plain
+power-feed n i h = feed-swap 1 n i ∙ ap (λ (r : ℕ). feedOf r n 0) (feed-one i (omega arith))
 
 -- entry b of table p
 table-at : (n p b r : ℕ) → p < n → b < 256 → getD (tables n r) (256 * p + b) 0 ≡ sumAt 8 (λ i. feedOf (feedOf r (8 * p) 0) i 0) b

@@ -15,7 +15,8 @@ use Rattle.bits.specs.definitions.Bits.{bitOf, bitAt, fieldAt, bytes, AllBytes}
 use Rattle.bits.specs.definitions.Words.{wordOf, wordAt, halfOf, rowOf}
 use Rattle.bits.proofs.Tabulate.{tabulate-cong}
 use Rattle.bits.proofs.Value.{bit-lt, number-bits}
-use Rattle.bits.proofs.Fields.{field-is, field-lt, field-bit, field-join, field-top, field-low, length-bytes, bytes-cong, is-bytes, bytes-bit, bytes-bytes}
+use Rattle.bits.proofs.Fields.{field-is, field-lt, field-bit, field-join, field-top, field-low, field-cross}
+use Rattle.bits.proofs.Fields.{length-bytes, bytes-cong, is-bytes, bytes-bit, bytes-bytes}
 use Rattle.bits.proofs.Words.{word-lt, row-at}
 use Rattle.lane_words.specs.definitions.LaneWords.{informationAt, laneWords, wordLanes}
 
@@ -25,25 +26,18 @@ use Rattle.lane_words.specs.definitions.LaneWords.{informationAt, laneWo
 pub field-middle : (s : List ℕ) (i n m k : ℕ) → fieldAt s i (n + m + k) / 2 ^ k % 2 ^ m ≡ fieldAt s (i + n) m
 field-middle s i n m k = rw (field-top s i (n + m) k) (field-low s i n m)
 
-pub half-law : (s : List ℕ) (o i : ℕ) {v : ℕ} → v ≡ fieldAt s (8 * o) 64 → 8 * o ≤ i → i ≤ 8 * o + 9 → v / 2 ^ (9 - (i - 8 * o)) % 2 ^ 55 ≡ fieldAt s i 55
-half-law s o i {v} e l h =
-    let n = i - 8 * o in
-    let k = 9 - n in
-    let long : 64 ≡ n + 55 + k = omega arith in
-    let from : 8 * o + n ≡ i = omega arith in
-    ap (λ (x : ℕ). x / 2 ^ k % 2 ^ 55) (e ∙ ap (fieldAt s (8 * o)) long) ∙ field-middle s (8 * o) n 55 k ∙ ap (λ (x : ℕ). fieldAt s x 55) from
-
--- the two numbers of a word with parity bits 0, from its halves
-pub word-law : (s : List ℕ) (b : ℕ) {upper lower : ℕ} → upper ≡ fieldAt s b 55 → lower ≡ fieldAt s (b + 55) 55
-    → (upper * 128 + lower / 2 ^ 48 ≡ fieldAt s b 110 * 2 ^ 16 / 2 ^ 64) × (lower % 2 ^ 48 * 65536 ≡ fieldAt s b 110 * 2 ^ 16 % 2 ^ 64)
-word-law s b {upper} {lower} e f =
-    let hi = upper * 128 + lower / 2 ^ 48 in
-    let lo = lower % 2 ^ 48 * 65536 in
-    let small : lo < 2 ^ 64 = omega arith in
-    let sum : hi * 2 ^ 64 + lo ≡ (upper * 2 ^ 55 + lower) * 2 ^ 16 = omega arith in
+-- the two numbers of a word with parity bits 0, from the 64 bits of the lanes from its first on, and the 48 after its first 62
+pub word-law : (s : List ℕ) (b y : ℕ) {x : ℕ} → x ≡ fieldAt s b 64 → y / 65536 ≡ fieldAt s (b + 62) 48
+    → (x / 4 ≡ fieldAt s b 110 * 2 ^ 16 / 2 ^ 64) × (y / 65536 * 65536 ≡ fieldAt s b 110 * 2 ^ 16 % 2 ^ 64)
+word-law s b y {x} e f =
+    let hi = x / 4 in
+    let lo = y / 65536 * 65536 in
+    let upper : hi ≡ fieldAt s b 62 = ap (λ (v : ℕ). v / 2 ^ 2) e ∙ field-top s b 62 2 in
+    let small : lo < 2 ^ 64 = omega (arith, f, field-lt s (b + 62) 48) in
+    let sum : hi * 2 ^ 64 + lo ≡ (hi * 2 ^ 48 + y / 65536) * 2 ^ 16 = omega arith in
     let whole : hi * 2 ^ 64 + lo ≡ fieldAt s b 110 * 2 ^ 16 =
-    sum ∙ ap (λ (x : ℕ). x * 2 ^ 16) (ap₂ (λ (x y : ℕ). x * 2 ^ 55 + y) e f ∙ sym (field-join s b 55 55)) in
-    (sym (digits-div hi small) ∙ ap (λ (x : ℕ). x / 2 ^ 64) whole, sym (digits-mod hi small) ∙ ap (λ (x : ℕ). x % 2 ^ 64) whole)
+    sum ∙ ap (λ (v : ℕ). v * 2 ^ 16) (ap₂ (λ (u v : ℕ). u * 2 ^ 48 + v) upper f ∙ sym (field-join s b 62 48)) in
+    (sym (digits-div hi small) ∙ ap (λ (v : ℕ). v / 2 ^ 64) whole, sym (digits-mod hi small) ∙ ap (λ (v : ℕ). v % 2 ^ 64) whole)
 
 -- ---- two numbers joined
 
@@ -59,6 +53,17 @@ joined-law x y a l h =
     let all′ : 64 ≡ m + a = omega arith in
     ap (λ (n : ℕ). bitOr (x * 2 ^ m % 2 ^ n) (y / 2 ^ a)) all ∙ ap (λ (v : ℕ). bitOr v (y / 2 ^ a)) (shl-drop x a m)
     ∙ or-shifted (x % 2 ^ a) m (y / 2 ^ a) (shr-lt m a (subst (λ (n : ℕ). y < 2 ^ n) all′ l))
+
+-- of two fields, one behind the other
+pub joined-fields : (s : List ℕ) (i a b : ℕ) {x y r : ℕ} → a ≤ 64 → x ≡ fieldAt s i 64 → y ≡ fieldAt s (i + 64) 64
+    → r ≡ x % 2 ^ a * 2 ^ (64 - a) + y / 2 ^ a → i + (64 - a) ≡ b → r ≡ fieldAt s b 64
+joined-fields s i a b h e f er eb =
+    let m = 64 - a in
+    let all : 64 ≡ m + a = omega arith in
+    let all′ : a + m ≡ 64 = omega arith in
+    let next : i + 64 ≡ i + m + a = omega arith in
+    er ∙ ap₂ (λ (u v : ℕ). u % 2 ^ a * 2 ^ m + v / 2 ^ a) (e ∙ ap (fieldAt s i) all) (f ∙ ap₂ (fieldAt s) next all) ∙ field-cross s i m a m a
+    ∙ ap₂ (fieldAt s) eb all′
 
 -- ---- a word in two numbers
 

@@ -1,3 +1,4 @@
 pub mod LaneWords
 pub mod Laying
+pub mod Thirds
 pub mod Determined

@@ -3,11 +3,12 @@
 ghost use mathlib.Core.Path.{_≡_};
 ghost use Prim.Native.Nat.{_+_, _*_, _-_, _/_, _%_, _^_, _<_, _≤_};
 ghost use lib.ListN.{length};
-ghost use Rattle.bits.specs.definitions.Bits.{fieldAt};
+ghost use Rattle.bits.specs.definitions.Bits.{tabulate, fieldAt};
 ghost use Rattle.bits.specs.private.Joins.{Put};
 ghost use Rattle.lane_words.specs.definitions.LaneWords.{laneWords, wordLanes};
+ghost use Rattle.lane_words.specs.private.Thirds.{firstAt, lastAt, withWord, Split};
 
-// The eight bytes from byte o on, as a number.
+// The eight bytes from byte o on, as a number, the last byte first: so the compiler makes one move of them.
 fn load(s: &[u8], o: usize) -> u64
     requires { ⌜ o + 8 ≤ length (now s) ⌝ }
     ensures { λ r. ⌜ r ≡ fieldAt (now (s .entry)) (8 * o) 64 ⌝ }
@@ -15,52 +16,113 @@ fn load(s: &[u8], o: usize) -> u64
     let mut v: u64 = 0;
     let mut j: usize = 0;
     while j < 8 {
-        v = v * 256 + bits::wide8(s[o + j]);
+        let k = (8 * j) as u64;
+        v = v + (bits::wide8(s[o + (7 - j)]) << k);
         j += 1;
     }
     v
 }
 
-// Half a word: the 55 bits from bit i on, which lie in the eight bytes from byte o on.
-fn half(s: &[u8], o: usize, i: usize) -> u64
-    requires { ⌜ (o + 8 ≤ length (now s)) × (8 * o ≤ i) × (i ≤ 8 * o + 9) ⌝ }
-    ensures { λ r. ⌜ (r ≡ fieldAt (now (s .entry)) i 55) × (r < 2 ^ 55) ⌝ }
-{
-    let v = load(s, o);
-    let k = (9 - (i - 8 * o)) as u64;
-    (v >> k) % bits::TWO_55
-}
-
-// Each word of a frame, from two halves: the eight bytes with which it begins, and the eight with which it ends.
-fn read_words(lanes: &[u8], words: &mut [u64])
-    requires { ⌜ (length (now lanes) ≡ 5280) × (length (now words) ≡ 768) ⌝ }
-    ensures { λ _. ⌜ now (words .exit) ≡ laneWords (now (lanes .entry)) ⌝ }
+// The six numbers from byte o on, each of eight bytes.
+fn read_six(s: &[u8], o: usize, six: &mut [u64])
+    requires { ⌜ (o + 48 ≤ length (now s)) × (length (now six) ≡ 6) ⌝ }
+    ensures { λ _. ⌜ now (six .exit) ≡ tabulate (length (now (six .entry))) (λ i. fieldAt (now (s .entry)) (8 * o + 64 * i) 64) ⌝ }
 {
     let mut i: usize = 0;
-    while i < 384 {
-        let b = 1320 * (i % 32) + 110 * (i / 32);
-        let upper = half(lanes, b / 8, b);
-        let lower = half(lanes, (b + 117) / 8 - 8, b + 55);
-        let at = 2 * i;
-        words[at] = upper * 128 + lower / bits::TWO_48;
-        words[at + 1] = lower % bits::TWO_48 * 65536;
+    while i < 6 {
+        six[i] = load(s, o + 8 * i);
         i += 1;
     }
 }
 
-// The words of a frame's lanes, with parity bits 0.
+// The first six numbers of each third of a lane, which is four words in 55 bytes.
+fn read_firsts(lanes: &[u8], firsts: &mut [u64])
+    requires { ⌜ (length (now lanes) ≡ 5280) × (length (now firsts) ≡ 576) ⌝ }
+    ensures { λ _. ⌜ now (firsts .exit) ≡ tabulate 576 (firstAt (now (lanes .entry))) ⌝ }
+{
+    let mut g: usize = 0;
+    while g < 96 {
+        let at = 6 * g;
+        let end = at + 6;
+        read_six(lanes, 55 * g, &mut firsts[at..end]);
+        g += 1;
+    }
+}
+
+// The last eight bytes of each, as its seventh number. They share a byte with the sixth: in one loop the compiler would move both byte by byte.
+fn read_lasts(lanes: &[u8], lasts: &mut [u64])
+    requires { ⌜ (length (now lanes) ≡ 5280) × (length (now lasts) ≡ 96) ⌝ }
+    ensures { λ _. ⌜ now (lasts .exit) ≡ tabulate 96 (lastAt (now (lanes .entry))) ⌝ }
+{
+    let mut g: usize = 0;
+    while g < 96 {
+        lasts[g] = load(lanes, 55 * g + 47);
+        g += 1;
+    }
+}
+
+// The last a bits of one number, and then the first 64 - a of the next.
+fn joined(x: u64, y: u64, a: u64) -> u64
+    requires { ⌜ (0 < a) × (a < 64) ⌝ }
+    ensures { λ r. ⌜ r ≡ x % 2 ^ a * 2 ^ (64 - a) + y / 2 ^ a ⌝ }
+{
+    (x << (64 - a)) | (y >> a)
+}
+
+// Word k of lane p, with parity bits 0: the first 62 bits of x, and then the first 48 of y.
+fn put_word(words: &mut [u64], k: usize, p: usize, x: u64, y: u64)
+    requires { ⌜ (length (now words) ≡ 768) × (k < 12) × (p < 32) ⌝ }
+    ensures { λ _. ⌜ (now (words .exit) ≡ withWord (now (words .entry)) k p x y) × (length (now (words .exit)) ≡ 768) ⌝ }
+{
+    let at = 2 * (32 * k + p);
+    words[at] = x / 4;
+    words[at + 1] = y / 65536 * 65536;
+}
+
+// Third t of lane p as four words. Word j of the four begins 18 j bits before number 2 j, counted from 0; the last number begins 8 bits before number 6.
+fn split_third(firsts: &[u64; 576], lasts: &[u64; 96], t: usize, p: usize, words: &mut [u64])
+    requires { ⌜ (length (now words) ≡ 768) × (t < 3) × (p < 32) ⌝ }
+    ensures { λ _. ⌜ Split (now (firsts .entry)) (now (lasts .entry)) (12 * p + 4 * t) (12 * p + 4 * t + 4) (now (words .entry)) (now (words .exit)) ⌝ }
+{
+    let g = 3 * p + t;
+    let m = 6 * g;
+    let n0 = firsts[m];
+    let n1 = firsts[m + 1];
+    let n2 = firsts[m + 2];
+    let n3 = firsts[m + 3];
+    let n4 = firsts[m + 4];
+    let n5 = firsts[m + 5];
+    let last = lasts[g];
+    let k = 4 * t;
+    put_word(words, k, p, n0, joined(n0, n1, 2));
+    put_word(words, k + 1, p, joined(n1, n2, 18), joined(n2, n3, 20));
+    put_word(words, k + 2, p, joined(n3, n4, 36), joined(n4, n5, 38));
+    put_word(words, k + 3, p, joined(n5, last << 8, 54), last << 16);
+}
+
+// Every lane's three thirds.
+fn split_lanes(firsts: &[u64; 576], lasts: &[u64; 96], words: &mut [u64])
+    requires { ⌜ length (now words) ≡ 768 ⌝ }
+    ensures { λ _. ⌜ Split (now (firsts .entry)) (now (lasts .entry)) 0 384 (now (words .entry)) (now (words .exit)) ⌝ }
+{
+    let mut p: usize = 0;
+    while p < 32 {
+        split_third(firsts, lasts, 0, p, words);
+        split_third(firsts, lasts, 1, p, words);
+        split_third(firsts, lasts, 2, p, words);
+        p += 1;
+    }
+}
+
+// The words of a frame's lanes, with parity bits 0. All numbers are read before one is split, so that the compiler makes one move of each.
 pub fn to_words(lanes: &[u8; 5280], words: &mut [u64; 768])
     ensures { λ _. ⌜ now (words .exit) ≡ laneWords (now (lanes .entry)) ⌝ }
 {
-    read_words(lanes, words);
-}
-
-// A number below 256 as a byte.
-fn narrow(x: u64) -> u8
-    requires { ⌜ x < 256 ⌝ }
-    ensures { λ r. ⌜ r ≡ x ⌝ }
-{
-    x as u8
+    let mut firsts = [0u64; 576];
+    read_firsts(lanes, &mut firsts);
+    let mut lasts = [0u64; 96];
+    read_lasts(lanes, &mut lasts);
+    split_lanes(&firsts, &lasts, words);
 }
 
 // v as the eight bytes from byte o on.
@@ -71,17 +133,9 @@ fn put(out: &mut [u8], o: usize, v: u64)
     let mut j: usize = 0;
     while j < 8 {
         let k = (8 * (8 - (j + 1))) as u64;
-        out[o + j] = narrow((v >> k) % 256);
+        out[o + j] = bits::low_byte(v >> k);
         j += 1;
     }
-}
-
-// The last a bits of one number, and then the first 64 - a of the next.
-fn joined(x: u64, y: u64, a: u64) -> u64
-    requires { ⌜ (0 < a) × (a < 64) ⌝ }
-    ensures { λ r. ⌜ r ≡ x % 2 ^ a * 2 ^ (64 - a) + y / 2 ^ a ⌝ }
-{
-    (x << (64 - a)) | (y >> a)
 }
 
 // Each word in the order of the lanes, in two writes: eight bytes from the one in which it begins, with the last bits of the word before; and eight

@@ -9,19 +9,19 @@ use native.Mathlib.Numerals.{add-one}
 use lib.Arith.{digits-div, digits-mod}
 use native.Mathlib.Omega.{arith}
 use lib.Dec.{eqb, ltb, lit<}
-use lib.ListN.{getD, set, length, take, drop, List·getD-append}
+use lib.ListN.{getD, length, take, drop, List·getD-append}
 use lib.Seq.{getD-append-add}
 use lib.Bits.{bitAnd, bitXor, and-le-l, xor-lt, xor-shr, xor-mod}
-use borrow.Author.Tests.{lt-ltb, le-ltb}
 use Rattle.bits.specs.definitions.Bits.{tabulate, number, bitOf, bitAt, bytes, AllBytes}
 use Rattle.bits.proofs.Tabulate.{tabulate-cong, getD-tabulate}
-use Rattle.bits.proofs.Filling.{Filling, filling-step, filling-at, filling-put}
+use Rattle.bits.proofs.Filling.{Filling, filling-put}
 use Rattle.bits.proofs.Value.{value-cong, bit-lt, bit-and, number-bits}
 use Rattle.bits.proofs.Fields.{bitAt-lt, bitAt-byte, bytes-bit, bytes-cong, bytes-bytes}
 use Rattle.lanes.specs.definitions.Permutation.{Lanes, Places, named, partner, permuted, lanesOf, laneBytes}
 use Rattle.lanes.specs.definitions.Interleaver.{Rows, stored, rowsOut, rowAt, storeBit, storeNext}
 use Rattle.lanes.specs.statements.Permutation.{PermutedTwice}
-use Rattle.lanes.specs.private.Blocks.{mergedByte, IsMasks, blockStart, blockByte, outFrom, keptFrom, source, IsSource}
+use Rattle.lanes.specs.private.Blocks.{mergedByte, IsMasks, blockStart, blockByte, outFrom, keptFrom}
+use Rattle.lanes.proofs.Starts.{frame-start, store-start}
 
 -- ---- the permutation
 
@@ -141,22 +141,20 @@ permuted-byte t T e i x X he hi =
 module _ (x s : List ℕ) (long : length x ≡ 5280) where
   -- a bit of one of the frame's blocks, and of one of the store's
   out-bit : (p b c k : ℕ) → p < 32 → b < 33 → c < 5 → k < 8 → bitOf 8 (blockByte (x ++ s) p b c) k ≡ lanesOf x p (40 * b + (8 * c + k))
-  unfolding blockByte blockStart
+  unfolding blockByte
   out-bit p b c k hp hb hc hk =
       let i : ℕ = 165 * p + 5 * b + c in
       let l : i < length x = omega arith in
       let e : 8 * i + k ≡ 1320 * p + (40 * b + (8 * c + k)) = omega arith in
-      rw (lt-ltb b 33 hb) (ap (λ (v : ℕ). bitOf 8 v k) (List·getD-append x s 0 i l) ∙ sym (bitAt-byte x i k hk) ∙ ap (bitAt x) e)
+      rw (frame-start p b hb) (ap (λ (v : ℕ). bitOf 8 v k) (List·getD-append x s 0 i l) ∙ sym (bitAt-byte x i k hk) ∙ ap (bitAt x) e)
 
   kept-bit : (p q c k : ℕ) → k < 8 → bitOf 8 (blockByte (x ++ s) p (33 + q) c) k ≡ stored s p (40 * q + (8 * c + k))
-  unfolding blockByte blockStart
+  unfolding blockByte
   kept-bit p q c k hk =
       let i : ℕ = 90 * p + 5 * q + c in
-      let d : 33 + q - 33 ≡ q = omega arith in
-      let l : 33 ≤ 33 + q = omega arith in
       let f : 5280 + 90 * p + 5 * q + c ≡ length x + i = omega arith in
       let e : 8 * i + k ≡ 720 * p + (40 * q + (8 * c + k)) = omega arith in
-      rw (le-ltb (33 + q) 33 l, d)
+      rw (store-start p q)
       (ap (λ (v : ℕ). bitOf 8 v k) (ap (λ (j : ℕ). getD (x ++ s) j 0) f ∙ getD-append-add x s i 0) ∙ sym (bitAt-byte s i k hk) ∙ ap (bitAt s) e)
 
 -- a byte of a block is a byte
@@ -164,13 +162,21 @@ block-lt : (z : List ℕ) → AllBytes z → (p b c : ℕ) → blockByte z p b c
 unfolding blockByte
 block-lt z Z p b c = Z .byte (blockStart p b + c)
 
--- what the code stores for the table t of a stage
-module _ (R : Rows) (t : List ℕ) (T : IsSource R t) (x s : List ℕ) (long : length x ≡ 5280) (Z : AllBytes (x ++ s)) (y : Lanes)
+-- byte i of what comes out of z, a frame with its store behind it
+abbrev pub outOf : Rows → List ℕ → ℕ → ℕ
+outOf R z i = blockByte z (i / 165) (outFrom R (i % 165 / 5)) (i % 5)
+
+-- and of what is kept
+abbrev pub keptOf : Rows → List ℕ → ℕ → ℕ
+keptOf R z i = blockByte z (i / 90) (keptFrom R (i % 90 / 5)) (i % 5)
+
+-- what the code stores for rows R
+module _ (R : Rows) (x s : List ℕ) (long : length x ≡ 5280) (Z : AllBytes (x ++ s)) (y : Lanes)
     (same : (p i : ℕ) → p < 32 → i < 1320 → lanesOf x p i ≡ y p i) where
   -- the 33 blocks that come out
-  out-byte : (p b c : ℕ) → p < 32 → b < 33 → c < 5 → blockByte (x ++ s) p (source R b) c ≡ number 8 (λ k. rowsOut R s y p (40 * b + (8 * c + k)))
-  unfolding rowsOut source outFrom
-  out-byte p b c hp hb hc = by-bits (blockByte (x ++ s) p (source R b) c) _ (block-lt (x ++ s) Z p (source R b) c) bit
+  out-byte : (p b c : ℕ) → p < 32 → b < 33 → c < 5 → blockByte (x ++ s) p (outFrom R b) c ≡ number 8 (λ k. rowsOut R s y p (40 * b + (8 * c + k)))
+  unfolding rowsOut outFrom
+  out-byte p b c hp hb hc = by-bits (blockByte (x ++ s) p (outFrom R b) c) _ (block-lt (x ++ s) Z p (outFrom R b) c) bit
     where
       r : ℕ
       r = b % 3
@@ -193,17 +199,17 @@ module _ (R : Rows) (t : List ℕ) (T : IsSource R t) (x s : List ℕ) (long : l
           let l : 3 * (n - d) + r < 33 = omega arith in
           out-bit x s long p (3 * (n - d) + r) c k hp l hc h ∙ same p (40 * (3 * (n - d) + r) + (8 * c + k)) hp (omega arith)
 
-      bit : (k : ℕ) → k < 8 → bitOf 8 (blockByte (x ++ s) p (source R b) c) k ≡ rowsOut R s y p (40 * b + (8 * c + k))
+      bit : (k : ℕ) → k < 8 → bitOf 8 (blockByte (x ++ s) p (outFrom R b) c) k ≡ rowsOut R s y p (40 * b + (8 * c + k))
       bit k h =
           let m : ℕ = 8 * c + k in
           let e : (40 * b + m) / 40 ≡ b = omega arith in
           let f : (40 * b + m) % 40 ≡ m = omega arith in
-          rw (lt-ltb b 33 hb, e, f) (moved (ltb n d) k h)
+          rw (e, f) (moved (ltb n d) k h)
 
   -- the 18 that are kept
-  kept-byte : (p j c : ℕ) → p < 32 → j < 18 → c < 5 → blockByte (x ++ s) p (source R (33 + j)) c ≡ number 8 (λ k. storeBit R s y p (40 * j + (8 * c + k)))
-  unfolding storeBit source keptFrom
-  kept-byte p j c hp hj hc = by-bits (blockByte (x ++ s) p (source R (33 + j)) c) _ (block-lt (x ++ s) Z p (source R (33 + j)) c) bit
+  kept-byte : (p j c : ℕ) → p < 32 → j < 18 → c < 5 → blockByte (x ++ s) p (keptFrom R j) c ≡ number 8 (λ k. storeBit R s y p (40 * j + (8 * c + k)))
+  unfolding storeBit keptFrom
+  kept-byte p j c hp hj hc = by-bits (blockByte (x ++ s) p (keptFrom R j) c) _ (block-lt (x ++ s) Z p (keptFrom R j) c) bit
     where
       r : ℕ
       r = rowAt R j
@@ -231,31 +237,27 @@ module _ (R : Rows) (t : List ℕ) (T : IsSource R t) (x s : List ℕ) (long : l
           out-bit x s long p (3 * (11 - suc q) + r) c k hp l hc h ∙ same p (40 * (3 * (11 - suc q) + r) + (8 * c + k)) hp (omega arith)
       moved false k h = kept-bit x s long p (R .start r + (q - 11)) c k h
 
-      bit : (k : ℕ) → k < 8 → bitOf 8 (blockByte (x ++ s) p (source R (33 + j)) c) k ≡ storeBit R s y p (40 * j + (8 * c + k))
+      bit : (k : ℕ) → k < 8 → bitOf 8 (blockByte (x ++ s) p (keptFrom R j) c) k ≡ storeBit R s y p (40 * j + (8 * c + k))
       bit k h =
           let m : ℕ = 8 * c + k in
           let e : (40 * j + m) / 40 ≡ j = omega arith in
           let f : (40 * j + m) % 40 ≡ m = omega arith in
-          let l : 33 ≤ 33 + j = omega arith in
-          let d : 33 + j - 33 ≡ j = omega arith in
-          rw (le-ltb (33 + j) 33 l, d, e, f) (moved (ltb q 11) k h)
+          rw (e, f) (moved (ltb q 11) k h)
 
-  pub out-is : tabulate 5280 (λ i. blockByte (x ++ s) (i / 165) (getD t (i % 165 / 5) 0) (i % 5)) ≡ laneBytes (rowsOut R s y)
+  pub out-is : tabulate 5280 (outOf R (x ++ s)) ≡ laneBytes (rowsOut R s y)
   unfolding laneBytes bytes
   out-is =
       tabulate-cong 5280 _ _
       (λ i h.
-      ap (λ (b : ℕ). blockByte (x ++ s) (i / 165) b (i % 5)) (T .entry (i % 165 / 5) (omega arith))
-      ∙ out-byte (i / 165) (i % 165 / 5) (i % 5) (omega arith) (omega arith) (omega arith)
+      out-byte (i / 165) (i % 165 / 5) (i % 5) (omega arith) (omega arith) (omega arith)
       ∙ sym (lane-byte 165 five-165 (lit< tt) (rowsOut R s y) i))
 
-  pub kept-is : tabulate 2880 (λ i. blockByte (x ++ s) (i / 90) (getD t (33 + i % 90 / 5) 0) (i % 5)) ≡ storeNext R s y
+  pub kept-is : tabulate 2880 (keptOf R (x ++ s)) ≡ storeNext R s y
   unfolding storeNext bytes
   kept-is =
       tabulate-cong 2880 _ _
       (λ i h.
-      ap (λ (b : ℕ). blockByte (x ++ s) (i / 90) b (i % 5)) (T .entry (33 + i % 90 / 5) (omega arith))
-      ∙ kept-byte (i / 90) (i % 90 / 5) (i % 5) (omega arith) (omega arith) (omega arith)
+      kept-byte (i / 90) (i % 90 / 5) (i % 5) (omega arith) (omega arith) (omega arith)
       ∙ sym (lane-byte 90 five-90 (lit< tt) (storeBit R s y) i))
 
 -- ---- frames by their bits
@@ -350,46 +352,45 @@ permuted-at t T e b row x X he hb r k hk = at (80 * b + k) ((80 * b + 2640) % 52
         (ap (λ (l : List ℕ). getD l k 0) r ∙ getD-tabulate 80 (λ i. getD t (5 * e + i % 5) 0) k 0 hk ∙ ap (λ (n : ℕ). getD t (5 * e + n) 0) c)
         ∙ permuted-byte t T e i x X he h
 
--- byte i of the blocks of lane p that the entries of the table t lead to, from entry first on
-abbrev pub movedByte : (z t : List ℕ) (p first i : ℕ) → ℕ
-movedByte z t p first i = blockByte z p (getD t (first + i / 5) 0) (i % 5)
+-- byte i of the blocks of lane p whose numbers are from 0, from 1, ..
+abbrev pub movedByte : List ℕ → (ℕ → ℕ) → ℕ → ℕ → ℕ
+movedByte z from p i = blockByte z p (from (i / 5)) (i % 5)
 
--- a step that stores the block of entry b, which begins at from
-pub block-step : (z t : List ℕ) (p first b from : ℕ) {n : ℕ} {out₀ out : List ℕ} → from ≡ blockStart p (getD t (first + b) 0)
-    → Filling (movedByte z t p first) n out₀ out (5 * b) → 5 * b + 5 ≤ n
-    → Filling (movedByte z t p first) n out₀
-    (set
-    (set (set (set (set out (5 * b) (getD z from 0)) (5 * b + 1) (getD z (from + 1) 0)) (5 * b + 2) (getD z (from + 2) 0)) (5 * b + 3) (getD z (from + 3) 0))
-    (5 * b + 4) (getD z (from + 4) 0))
-    (5 * (b + 1))
+-- a step that lends the part of block b, where the block that begins at v is stored
+pub block-step : (z : List ℕ) (from : ℕ → ℕ) (p b v e : ℕ) (part : List ℕ) {n i : ℕ} {out₀ out : List ℕ} → v ≡ blockStart p (from b)
+    → Filling (movedByte z from p) n out₀ out i → (i ≡ 5 * b) × (e ≡ i + 5) × (e ≤ n)
+    → part ≡ tabulate (length (take (e - i) (drop i out))) (λ c. getD z (v + c) 0)
+    → Filling (movedByte z from p) n out₀ (take i out ++ (part ++ drop (e - i) (drop i out))) e
 unfolding blockByte
-block-step z t p first b from {n} {out₀} q F h =
-    let F0 = filling-step g (getD z from 0) F (omega arith) (at 0 (5 * b) from (lit< tt) (omega arith) (omega arith)) in
-    let F1 = filling-at g (5 * b + 1) (getD z (from + 1) 0) (omega arith) F0 (omega arith) (at 1 (5 * b + 1) (from + 1) (lit< tt) refl refl) in
-    let F2 = filling-at g (5 * b + 2) (getD z (from + 2) 0) (omega arith) F1 (omega arith) (at 2 (5 * b + 2) (from + 2) (lit< tt) refl refl) in
-    let F3 = filling-at g (5 * b + 3) (getD z (from + 3) 0) (omega arith) F2 (omega arith) (at 3 (5 * b + 3) (from + 3) (lit< tt) refl refl) in
-    let F4 = filling-at g (5 * b + 4) (getD z (from + 4) 0) (omega arith) F3 (omega arith) (at 4 (5 * b + 4) (from + 4) (lit< tt) refl refl) in
-    let next : 5 * b + 4 + 1 ≡ 5 * (b + 1) = omega arith in
-    subst (Filling g n out₀ _) next F4
+block-step z from p b v e part {n} {i} q F h is = filling-put (movedByte z from p) e part (λ m c. getD z (v + c) 0) F (omega arith) (h .2) is agree
   where
-    g : ℕ → ℕ
-    g = movedByte z t p first
+    agree : (k : ℕ) → k < e - i → getD z (v + k) 0 ≡ getD z (blockStart p (from ((i + k) / 5)) + (i + k) % 5) 0
+    agree k l =
+        let d : b ≡ (i + k) / 5 = omega arith in
+        let r : k ≡ (i + k) % 5 = omega arith in
+        (λ w. getD z (q w + k) 0) ∙ (λ w. getD z (blockStart p (from (d w)) + r w) 0)
 
-    at : (c i j : ℕ) → c < 5 → i ≡ 5 * b + c → j ≡ from + c → getD z j 0 ≡ g i
-    at c i j h e f =
-        let d : b ≡ i / 5 = omega arith in
-        let r : c ≡ i % 5 = omega arith in
-        (λ w. getD z (f w) 0) ∙ (λ w. getD z (q w + c) 0) ∙ (λ w. getD z (blockStart p (getD t (first + d w) 0) + r w) 0)
+-- a step that lends the part of d blocks from block s on
+pub row-step : (z : List ℕ) (from : ℕ → ℕ) (p s d e : ℕ) (part : List ℕ) {n i : ℕ} {out₀ out : List ℕ} → Filling (movedByte z from p) n out₀ out i
+    → (i ≡ 5 * s) × (e ≡ i + 5 * d) × (e ≤ n) → part ≡ tabulate (length (take (e - i) (drop i out))) (movedByte z (λ j. from (s + j)) p)
+    → Filling (movedByte z from p) n out₀ (take i out ++ (part ++ drop (e - i) (drop i out))) e
+row-step z from p s d e part {n} {i} F h is = filling-put (movedByte z from p) e part (λ m. movedByte z (λ j. from (s + j)) p) F (omega arith) (h .2) is agree
+  where
+    agree : (k : ℕ) → k < e - i → movedByte z (λ j. from (s + j)) p k ≡ movedByte z from p (i + k)
+    agree k l =
+        let b : s + k / 5 ≡ (i + k) / 5 = omega arith in
+        let c : k % 5 ≡ (i + k) % 5 = omega arith in
+        λ w. blockByte z p (from (b w)) (c w)
 
 -- the same bytes counted over the lanes: byte k of lane p of L bytes
-pub lane-block : (z t : List ℕ) (L first p k : ℕ) → ((i : ℕ) → i % L % 5 ≡ i % 5) → k < L
-    → movedByte z t p first k ≡ blockByte z ((L * p + k) / L) (getD t (first + (L * p + k) % L / 5) 0) ((L * p + k) % 5)
-lane-block z t L first p k five h =
+pub lane-block : (z : List ℕ) (from : ℕ → ℕ) (L p k : ℕ) → ((i : ℕ) → i % L % 5 ≡ i % 5) → k < L
+    → movedByte z from p k ≡ blockByte z ((L * p + k) / L) (from ((L * p + k) % L / 5)) ((L * p + k) % 5)
+lane-block z from L p k five h =
     let e : p * L + k ≡ L * p + k = ap (λ (x : ℕ). x + k) (mul-comm p L) in
     let d : p ≡ (L * p + k) / L = sym (digits-div p h) ∙ ap (λ (x : ℕ). x / L) e in
     let r : k ≡ (L * p + k) % L = sym (digits-mod p h) ∙ ap (λ (x : ℕ). x % L) e in
     let c : k % 5 ≡ (L * p + k) % 5 = ap (λ (x : ℕ). x % 5) r ∙ five (L * p + k) in
-    λ w. blockByte z (d w) (getD t (first + r w / 5) 0) (c w)
+    λ w. blockByte z (d w) (from (r w / 5)) (c w)
 
 -- a step that lends the part of number p of L bytes: a lane, or sixteen blocks
 pub lane-step : (f : ℕ → ℕ) {n : ℕ} {out₀ out : List ℕ} (L p e : ℕ) (part : List ℕ) (w : ℕ → ℕ) → Filling f n out₀ out (L * p) → e ≡ L * p + L → e ≤ n

@@ -4,22 +4,22 @@ use mathlib.Core.Path.{_≡_, refl, sym, ap, _∙_, subst}
 use mathlib.Core.List.{List, [], _++_, append-nil}
 use Prim.Native.Nat.{ℕ, _+_, _/_, _%_, _≤_, _<_}
 use native.Mathlib.Omega.{arith}
-use lib.ListN.{getD, length, take, drop, length-drop, drop-of-length-le}
-use lib.Seq.{length-take-le, take-all, take-at}
+use lib.ListN.{length, take, drop, length-append, length-take, length-drop, drop-of-length-le}
+use lib.Seq.{take-all, take-at}
 use Rattle.bits.specs.definitions.Bits.{tabulate, copied, AllBytes}
 use Rattle.bits.proofs.Fields.{length-bytes}
 use Rattle.bits.proofs.Filling.{copied-all}
 use Rattle.lanes.specs.definitions.Permutation.{Lanes, named, permuted, lanesOf, laneBytes}
 use Rattle.lanes.specs.definitions.Interleaver.{sender, receiver, rowsOut, interleavedFrame, interleavedStore, deinterleavedFrame, deinterleavedStore}
-use Rattle.lanes.specs.private.Blocks.{blockByte, IsSource}
-use Rattle.lanes.proofs.Bytewise.{out-is, kept-is, frame-bit, permuted-lt, rows-out-lt, lanes-lt, permuted-cong, named-16}
+use Rattle.lanes.proofs.Bytewise.{outOf, keptOf, out-is, kept-is, frame-bit, permuted-lt, rows-out-lt, lanes-lt, permuted-cong, named-16}
 
--- a store of 2880 bytes that was copied over the end of z stands behind its first 5280 bytes
-pub behind : (z s : List ℕ) {q : List ℕ} → length z ≡ 8160 → length s ≡ 2880 → q ≡ copied s (take 2880 (drop 5280 z))
+-- a store that fills what was lent of z, its 2880 bytes behind the first 5280, and was copied there stands behind those
+pub behind : (z s : List ℕ) {q : List ℕ} → length z ≡ 8160 → length s ≡ length q → q ≡ copied s (take 2880 (drop 5280 z))
     → take 5280 z ++ (q ++ drop 2880 (drop 5280 z)) ≡ take 5280 z ++ s
-behind z s {q} lz ls e =
-    let room : length s ≡ length (take 2880 (drop 5280 z)) = ls ∙ sym (length-take-le 2880 (drop 5280 z) (omega (arith, length-drop 5280 z))) in
-    let is : q ≡ s = e ∙ copied-all s (take 2880 (drop 5280 z)) room in
+unfolding copied
+behind z s {q} lz room e =
+    let size : length q ≡ length (take 2880 (drop 5280 z)) = ap length e ∙ simp (length-append, length-take, length-drop) (omega arith) in
+    let is : q ≡ s = e ∙ copied-all s (take 2880 (drop 5280 z)) (room ∙ size) in
     let end : length (drop 5280 z) ≤ 2880 = omega (arith, length-drop 5280 z) in
     let none : drop 2880 (drop 5280 z) ≡ [] = drop-of-length-le (drop 5280 z) end in
     (λ k. take 5280 z ++ (is k ++ none k)) ∙ ap (λ (l : List ℕ). take 5280 z ++ l) (append-nil s)
@@ -31,21 +31,14 @@ beside x s r {z} {w} lx lr ez ew =
     ew ∙ ap (λ (l : List ℕ). take 5280 l ++ s) (ez ∙ ap (λ (l : List ℕ). l ++ drop (length x) r) (take-all (length r) x (omega arith)))
     ∙ ap (λ (l : List ℕ). l ++ s) (take-at x (drop (length x) r) 5280 lx)
 
--- what `move_lanes` leaves of z, a frame with its store behind it, for the table t
-abbrev pub moved : (t z : List ℕ) → List ℕ
-moved t z = tabulate 5280 (λ i. blockByte z (i / 165) (getD t (i % 165 / 5) 0) (i % 5))
-
-abbrev pub kept : (t z : List ℕ) → List ℕ
-kept t z = tabulate 2880 (λ i. blockByte z (i / 90) (getD t (33 + i % 90 / 5) 0) (i % 5))
-
--- A frame a and its store s, and z, which was a buffer r: the frame in front, then w, with its store behind it. The blocks are moved by the table t.
-module _ (e : ℕ) (a s r t : List ℕ) {z w out next : List ℕ} (lr : length r ≡ 8160) (ew : w ≡ take 5280 z ++ s) (W : AllBytes w) where
-  pub interleave-law : IsSource sender t → z ≡ copied (laneBytes (permuted (named (e % 16)) (lanesOf a))) r → out ≡ moved t w → next ≡ kept t w
-      → (out ≡ interleavedFrame (named e) a s) × (next ≡ interleavedStore (named e) a s)
+-- A frame a and its store s, and z, which was a buffer r: the frame in front, then w, with its store behind it.
+module _ (e : ℕ) (a s r : List ℕ) {z w out next : List ℕ} (lr : length r ≡ 8160) (ew : w ≡ take 5280 z ++ s) (W : AllBytes w) where
+  pub interleave-law : z ≡ copied (laneBytes (permuted (named (e % 16)) (lanesOf a))) r → out ≡ tabulate 5280 (outOf sender w)
+      → next ≡ tabulate 2880 (keptOf sender w) → (out ≡ interleavedFrame (named e) a s) × (next ≡ interleavedStore (named e) a s)
   unfolding interleavedFrame interleavedStore laneBytes
-  interleave-law T ez eo en = (
-    eo ∙ ap (moved t) is ∙ out-is sender t T x s long (subst AllBytes is W) y same,
-    en ∙ ap (kept t) is ∙ kept-is sender t T x s long (subst AllBytes is W) y same,
+  interleave-law ez eo en = (
+    eo ∙ ap (λ (l : List ℕ). tabulate 5280 (outOf sender l)) is ∙ out-is sender x s long (subst AllBytes is W) y same,
+    en ∙ ap (λ (l : List ℕ). tabulate 2880 (keptOf sender l)) is ∙ kept-is sender x s long (subst AllBytes is W) y same,
   )
     where
       x : List ℕ
@@ -66,14 +59,14 @@ module _ (e : ℕ) (a s r t : List ℕ) {z w out next : List ℕ} (lr : length r
           ∙ frame-bit y (permuted-lt (named e) (lanesOf a) (lanes-lt a)) p i hp hi
 
   -- y is the buffer of the lanes before they are permuted, and out₀ was where they go
-  pub deinterleave-law : {y : List ℕ} (out₀ : List ℕ) → IsSource receiver t → length a ≡ 5280 → length out₀ ≡ 5280 → z ≡ copied a r → y ≡ moved t w
-      → next ≡ kept t w → out ≡ copied (laneBytes (permuted (named (e % 16)) (lanesOf y))) out₀
+  pub deinterleave-law : {y : List ℕ} (out₀ : List ℕ) → length a ≡ 5280 → length out₀ ≡ 5280 → z ≡ copied a r → y ≡ tabulate 5280 (outOf receiver w)
+      → next ≡ tabulate 2880 (keptOf receiver w) → out ≡ copied (laneBytes (permuted (named (e % 16)) (lanesOf y))) out₀
       → (out ≡ deinterleavedFrame (named e) a s) × (next ≡ deinterleavedStore a s)
   unfolding deinterleavedFrame deinterleavedStore laneBytes
-  deinterleave-law {y} out₀ T long lo ez ey en eo = (
+  deinterleave-law {y} out₀ long lo ez ey en eo = (
     eo ∙ copied-all _ out₀ (length-bytes 5280 (λ j. permuted (named (e % 16)) (lanesOf y) (j / 1320) (j % 1320)) ∙ sym lo)
         ∙ permuted-cong (named (e % 16)) (named e) (lanesOf y) back (named-16 e) same,
-    en ∙ ap (kept t) is ∙ kept-is receiver t T a s long (subst AllBytes is W) (lanesOf a) (λ p i hp hi. refl),
+    en ∙ ap (λ (l : List ℕ). tabulate 2880 (keptOf receiver l)) is ∙ kept-is receiver a s long (subst AllBytes is W) (lanesOf a) (λ p i hp hi. refl),
   )
     where
       back : Lanes
@@ -85,5 +78,5 @@ module _ (e : ℕ) (a s r t : List ℕ) {z w out next : List ℕ} (lr : length r
       same : (p i : ℕ) → p < 32 → i < 1320 → lanesOf y p i ≡ back p i
       same p i hp hi =
           ap (λ (l : List ℕ). lanesOf l p i)
-          (ey ∙ ap (moved t) is ∙ out-is receiver t T a s long (subst AllBytes is W) (lanesOf a) (λ p i hp hi. refl))
+          (ey ∙ ap (λ (l : List ℕ). tabulate 5280 (outOf receiver l)) is ∙ out-is receiver a s long (subst AllBytes is W) (lanesOf a) (λ p i hp hi. refl))
           ∙ frame-bit back (rows-out-lt receiver s (lanesOf a) (lanes-lt a)) p i hp hi

@@ -1,6 +1,7 @@
 pub mod Lists
 pub mod Entries
 pub mod Bytewise
+pub mod Starts
 pub mod Frames
 pub mod Rows
 pub mod Stream

@@ -3,20 +3,6 @@
 use mathlib.Core.List.{List, [], _∷_}
 use Prim.Native.Nat.{ℕ}
 
--- `SENDER`
-abbrev pub senderSources : List ℕ
-senderSources =
-    0 ∷ 38 ∷ 50 ∷ 3 ∷ 37 ∷ 49 ∷ 6 ∷ 36 ∷ 48 ∷ 9 ∷ 35 ∷ 47 ∷ 12 ∷ 34 ∷ 46 ∷ 15 ∷ 33 ∷
-    45 ∷ 18 ∷ 1 ∷ 44 ∷ 21 ∷ 4 ∷ 43 ∷ 24 ∷ 7 ∷ 42 ∷ 27 ∷ 10 ∷ 41 ∷ 30 ∷ 13 ∷ 40 ∷ 31 ∷
-    28 ∷ 25 ∷ 22 ∷ 19 ∷ 16 ∷ 32 ∷ 29 ∷ 26 ∷ 23 ∷ 20 ∷ 17 ∷ 14 ∷ 11 ∷ 8 ∷ 5 ∷ 2 ∷ 39 ∷ []
-
--- `RECEIVER`
-abbrev pub receiverSources : List ℕ
-receiverSources =
-    44 ∷ 50 ∷ 2 ∷ 43 ∷ 49 ∷ 5 ∷ 42 ∷ 48 ∷ 8 ∷ 41 ∷ 47 ∷ 11 ∷ 40 ∷ 46 ∷ 14 ∷ 39 ∷ 45 ∷
-    17 ∷ 38 ∷ 1 ∷ 20 ∷ 37 ∷ 4 ∷ 23 ∷ 36 ∷ 7 ∷ 26 ∷ 35 ∷ 10 ∷ 29 ∷ 34 ∷ 13 ∷ 32 ∷ 30 ∷
-    27 ∷ 24 ∷ 21 ∷ 18 ∷ 15 ∷ 12 ∷ 9 ∷ 6 ∷ 3 ∷ 0 ∷ 33 ∷ 31 ∷ 28 ∷ 25 ∷ 22 ∷ 19 ∷ 16 ∷ []
-
 -- `MASKS`
 abbrev pub masks : List ℕ
 masks =

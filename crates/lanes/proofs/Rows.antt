@@ -71,7 +71,7 @@ module _ (D m : ℕ) (x s a : ℕ → ℕ) (held : Held D m x s) (now : (k : ℕ
 -- ---- three rows
 
 -- the rows lie apart in the store: what the law of a lane asks of them
-pub Apart : Rows → Type 0
+unfoldable pub Apart : Rows → Type 0
 Apart R = (r j : ℕ) → r < 3 → j < R .depth r → (R .start r + j < 18) × (rowAt R (R .start r + j) ≡ r)
 
 pub sender-apart : Apart sender

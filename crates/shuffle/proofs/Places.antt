@@ -11,8 +11,8 @@ use borrow.Author.Tests.{lt-ltb, le-ltb}
 use Rattle.bits.specs.definitions.Bits.{number, bitOf}
 use Rattle.bits.specs.definitions.Words.{wordAt, rowOf}
 use Rattle.bits.proofs.Value.{value-cong, value-lt, bit-lt, bit-number, number-bits}
-use lib.ListN.{length, getD}
-use Rattle.bits.proofs.Words.{word-lt, row-at, row-cong, row-long}
+use lib.ListN.{getD}
+use Rattle.bits.proofs.Words.{word-lt, row-at, row-cong}
 use Rattle.shuffle.specs.definitions.Shuffle.{place, unplace, shuffled, unshuffled}
 use Rattle.shuffle.specs.statements.Shuffle.{PlacesBack, TakenOnce, ShuffleBack}
 use Rattle.shuffle.specs.private.Rotation.{rotatedFrom, rotated, rotatedRow}
@@ -108,7 +108,3 @@ shuffled-is s = row-from 20 _ s (λ p r. from-on (20 * p) (90 * p) r (omega arit
 pub unshuffled-is : (s : List ℕ) → rotatedRow 90 s ≡ unshuffled s
 unfolding unshuffled place
 unshuffled-is s = row-from 90 _ s (λ p r. from-on (90 * p) (20 * p) r (omega arith))
-
-pub shuffled-long : (s : List ℕ) → length (shuffled s) ≡ 768
-unfolding shuffled
-shuffled-long s = row-long 384 _

@@ -6,22 +6,24 @@ use mathlib.Core.Logic.{_≢_}
 use mathlib.Core.Bool.{cond}
 use mathlib.Core.List.{List}
 use Prim.Native.Nat.{ℕ, _+_, _-_, _*_, _/_, _%_, _^_, _<_, _≤_}
-use native.Mathlib.Nat.{one-mul, mod-eq-of-lt, mul-le-mul-left, le-of-lt, not-suc-le-zero}
+use native.Mathlib.Nat.{one-mul, mod-lt, mod-eq-of-lt, mul-le-mul-left, le-of-lt, not-suc-le-zero, div-div-eq-div-mul}
 use native.Mathlib.Decide.{decLt, ℕ-discrete}
 use native.Mathlib.Omega.{arith}
 use lib.Arith.{digits-lt, digits-div, digits-mod}
-use lib.Pow.{pow-lt, pow-pos}
+use lib.Pow.{pow-lt, pow-pos, pow-add, field, mod-mod-pow}
 use lib.Bits.{bitAnd, bitOr}
-use lib.Dec.{eqb, ltb}
+use lib.Dec.{eqb, ltb, lit<}
 use lib.ListN.{length, getD, set, length-set}
 use lib.Seq.{getD-set-same, getD-set-other}
 use borrow.Author.Tests.{lt-ltb, le-ltb}
-use Rattle.bits.specs.definitions.Bits.{number, bitOf}
-use Rattle.bits.specs.definitions.Words.{wordAt, halfOf}
-use Rattle.bits.proofs.Value.{value-cong, value-lt, value-append, value-top, value-low, bit-lt, number-bits}
-use Rattle.bits.proofs.Joins.{cross-lt, cross-bits}
+use Rattle.bits.specs.definitions.Bits.{value, number, bitOf}
+use Rattle.bits.specs.definitions.Words.{wordAt, rowOf, halfOf, wordBytes}
+use Rattle.bits.specs.private.Joins.{Put}
+use Rattle.bits.proofs.Value.{value-cong, value-lt, value-append, value-top, value-low, value-digit, bit-lt, number-bits}
+use Rattle.bits.proofs.Joins.{cross-lt, cross-bits, byte-pow, put-byte}
 use Rattle.bits.proofs.Tabulate.{is-tabulate}
-use Rattle.shuffle.specs.private.Rotation.{rotatedFrom, rotated, crossed, rotatedFirst, Holds, LaneRotated, rotatedRow}
+use Rattle.bits.proofs.Words.{row-at}
+use Rattle.shuffle.specs.private.Rotation.{rotatedFrom, rotated, crossed, rotatedFirst, Holds, HoldsBytes, LaneRotated, rotatedRow, reversed}
 
 pow-64 : (n : ℕ) → n < 55 → 2 ^ n < 2 ^ 64
 pow-64 n h = let l : n < 64 = omega arith in pow-lt l
@@ -180,72 +182,168 @@ places-fit m p h l = let le : m * p ≤ m * 32 = mul-le-mul-left m (le-of-lt l) 
 
 -- ---- a row's words rotated lane by lane
 
--- a step of the loop over lane p, which stores word 32 k + p
-module _ {n p : ℕ} {s o₀ : List ℕ} where
-  pub lane-start : length o₀ ≡ 768 → LaneRotated n p s o₀ 0 o₀
-  lane-start e = record { long = e; here = λ i _ _ l. absurd (not-suc-le-zero l); there = λ j _. refl }
+-- what a list holds of a word lies in that word's own elements
+abbrev pub Own : (List ℕ → ℕ → ℕ → Type 0) → ℕ → Type 0
+Own H size = (o o′ : List ℕ) (i w : ℕ) → ((j : ℕ) → j / size ≡ i → getD o′ j 0 ≡ getD o j 0) → H o i w → H o′ i w
 
-  pub lane-step : {o : List ℕ} {k i x y : ℕ} → LaneRotated n p s o₀ k o → k < 12 → p < 32 → i ≡ 32 * k + p
-      → x ≡ rotated n (wordAt s i) / 2 ^ 64 → y ≡ rotated n (wordAt s i) % 2 ^ 64 → LaneRotated n p s o₀ (k + 1) (set (set o (2 * i) x) (2 * i + 1) y)
-  lane-step {o} {k} {i} {x} {y} L hk hp e ex ey =
-      record {
-        long = length-set (set o (2 * i) x) (2 * i + 1) y ∙ length-set o (2 * i) x ∙ L .long;
-        here = λ m b c d. at m (ℕ-discrete m i) b c d;
-        there = λ j ne. other j (λ q. ne (omega arith)) (λ q. ne (omega arith)) ∙ L .there j ne;
-      }
-    where
-      other : (j : ℕ) → j ≢ 2 * i → j ≢ 2 * i + 1 → getD (set (set o (2 * i) x) (2 * i + 1) y) j 0 ≡ getD o j 0
-      other j a b = getD-set-other (set o (2 * i) x) (2 * i + 1) j y 0 b ∙ getD-set-other o (2 * i) j x 0 a
+pub own-numbers : Own Holds 2
+own-numbers o o′ i w e h = (e (2 * i) (omega arith) ∙ h .0, e (2 * i + 1) (omega arith) ∙ h .1)
 
-      upper : getD (set (set o (2 * i) x) (2 * i + 1) y) (2 * i) 0 ≡ x
-      upper = getD-set-other (set o (2 * i) x) (2 * i + 1) (2 * i) y 0 (omega arith) ∙ getD-set-same o (2 * i) x 0 (omega (arith, L .long))
+pub own-bytes : Own HoldsBytes 16
+own-bytes o o′ i w e h = λ b l. e (16 * i + b) (omega arith) ∙ h b l
 
-      lower : getD (set (set o (2 * i) x) (2 * i + 1) y) (2 * i + 1) 0 ≡ y
-      lower = getD-set-same (set o (2 * i) x) (2 * i + 1) y 0 (omega (arith, L .long, length-set o (2 * i) x))
+-- the list o holds the words of the lanes below p of the row s, each rotated by m times its lane's number
+pub record LanesRotated (H : List ℕ → ℕ → ℕ → Type 0) (size m : ℕ) (s : List ℕ) (p : ℕ) (o : List ℕ) : Type 0 where
+  pub long : length o ≡ 384 * size
+  pub below : (i : ℕ) → i < 384 → i % 32 < p → H o i (rotated (m * (i % 32) % 110) (wordAt s i))
 
-      at : (m : ℕ) → Dec (m ≡ i) → m < 384 → m % 32 ≡ p → m / 32 < k + 1 → Holds (set (set o (2 * i) x) (2 * i + 1) y) m (rotated n (wordAt s m))
-      at m (yes q) b c d = subst (λ (m : ℕ). Holds (set (set o (2 * i) x) (2 * i + 1) y) m (rotated n (wordAt s m))) (sym q) (upper ∙ ex, lower ∙ ey)
-      at m (no ne) b c d =
-          let old = L .here m b c (omega arith) in
-          (other (2 * m) (omega arith) (omega arith) ∙ old .0, other (2 * m + 1) (omega arith) (omega arith) ∙ old .1)
+module _ {H : List ℕ → ℕ → ℕ → Type 0} {size : ℕ} where
+  -- a step of the loop over lane p, which stores word 32 k + p
+  module _ {n p : ℕ} {s o₀ : List ℕ} where
+    pub lane-start : LaneRotated H size n p s o₀ 0 o₀
+    lane-start = record { long = refl; here = λ i _ _ l. absurd (not-suc-le-zero l); there = λ j _. refl }
 
-  pub lane-done : {o : List ℕ} {k : ℕ} → LaneRotated n p s o₀ k o → 12 ≤ k → LaneRotated n p s o₀ 12 o
-  lane-done L h = record { long = L .long; here = λ i b c d. L .here i b c (omega arith); there = L .there }
+    pub lane-step : (own : Own H size) {o o′ : List ℕ} {k i : ℕ} → LaneRotated H size n p s o₀ k o → k < 12 → p < 32 → i ≡ 32 * k + p → length o′ ≡ length o
+        → H o′ i (rotated n (wordAt s i)) → ((j : ℕ) → j / size ≢ i → getD o′ j 0 ≡ getD o j 0) → LaneRotated H size n p s o₀ (k + 1) o′
+    lane-step own {o} {o′} {k} {i} L hk hp e l new kept =
+        record {
+          long = l ∙ L .long;
+          here = λ m b c d. at m (ℕ-discrete m i) b c d;
+          there = λ j ne. kept j (λ q. ne (omega arith)) ∙ L .there j ne;
+        }
+      where
+        at : (m : ℕ) → Dec (m ≡ i) → m < 384 → m % 32 ≡ p → m / 32 < k + 1 → H o′ m (rotated n (wordAt s m))
+        at m (yes q) b c d = subst (λ (m : ℕ). H o′ m (rotated n (wordAt s m))) (sym q) new
+        at m (no ne) b c d = own o o′ m _ (λ j q. kept j (λ r. ne (sym q ∙ r))) (L .here m b c (omega arith))
 
--- the amount as a literal
-pub lane-by : {n n′ p k : ℕ} {s o₀ o : List ℕ} → n ≡ n′ → LaneRotated n′ p s o₀ k o → LaneRotated n p s o₀ k o
-lane-by {p = p} {k = k} {s = s} {o₀ = o₀} {o = o} e L = subst (λ (n : ℕ). LaneRotated n p s o₀ k o) (sym e) L
+    pub lane-done : {o : List ℕ} {k : ℕ} → LaneRotated H size n p s o₀ k o → 12 ≤ k → LaneRotated H size n p s o₀ 12 o
+    lane-done L h = record { long = L .long; here = λ i b c d. L .here i b c (omega arith); there = L .there }
 
--- the row o has the words of the lanes below p of the row s, each rotated by m times its lane's number
-pub record LanesRotated (m : ℕ) (s : List ℕ) (p : ℕ) (o : List ℕ) : Type 0 where
-  pub long : length o ≡ 768
-  pub below : (i : ℕ) → i < 384 → i % 32 < p → Holds o i (rotated (m * (i % 32) % 110) (wordAt s i))
+  -- the amount as a literal
+  pub lane-by : {n n′ p k : ℕ} {s o₀ o : List ℕ} → n ≡ n′ → LaneRotated H size n′ p s o₀ k o → LaneRotated H size n p s o₀ k o
+  lane-by {p = p} {k = k} {s = s} {o₀ = o₀} {o = o} e L = subst (λ (n : ℕ). LaneRotated H size n p s o₀ k o) (sym e) L
 
-module _ {m : ℕ} {s : List ℕ} where
-  pub lanes-start : {o : List ℕ} → length o ≡ 768 → LanesRotated m s 0 o
-  lanes-start e = record { long = e; below = λ i _ l. absurd (not-suc-le-zero l) }
+  module _ {m : ℕ} {s : List ℕ} where
+    pub lanes-start : {o : List ℕ} → length o ≡ 384 * size → LanesRotated H size m s 0 o
+    lanes-start e = record { long = e; below = λ i _ l. absurd (not-suc-le-zero l) }
 
-  pub lanes-step : {o₀ o : List ℕ} {p : ℕ} → LanesRotated m s p o₀ → LaneRotated (m * p % 110) p s o₀ 12 o → LanesRotated m s (p + 1) o
-  lanes-step {o₀} {o} {p} F L = record { long = L .long; below = λ i b c. at i (ℕ-discrete (i % 32) p) b c }
-    where
-      at : (i : ℕ) → Dec (i % 32 ≡ p) → i < 384 → i % 32 < p + 1 → Holds o i (rotated (m * (i % 32) % 110) (wordAt s i))
-      at i (yes q) b c = subst (λ (l : ℕ). Holds o i (rotated (m * l % 110) (wordAt s i))) (sym q) (L .here i b q (omega arith))
-      at i (no ne) b c =
-          let old = F .below i b (omega arith) in
-          (L .there (2 * i) (omega arith) ∙ old .0, L .there (2 * i + 1) (omega arith) ∙ old .1)
+    pub lanes-step : (own : Own H size) {o₀ o : List ℕ} {p : ℕ} → LanesRotated H size m s p o₀ → LaneRotated H size (m * p % 110) p s o₀ 12 o
+        → LanesRotated H size m s (p + 1) o
+    lanes-step own {o₀} {o} {p} F L = record { long = L .long ∙ F .long; below = λ i b c. at i (ℕ-discrete (i % 32) p) b c }
+      where
+        at : (i : ℕ) → Dec (i % 32 ≡ p) → i < 384 → i % 32 < p + 1 → H o i (rotated (m * (i % 32) % 110) (wordAt s i))
+        at i (yes q) b c = subst (λ (l : ℕ). H o i (rotated (m * l % 110) (wordAt s i))) (sym q) (L .here i b q (omega arith))
+        at i (no ne) b c = own o₀ o i _ (λ j q. L .there j (λ r. ne (ap (λ (x : ℕ). x % 32) (sym q) ∙ r))) (F .below i b (omega arith))
 
-  pub lanes-done : {o : List ℕ} {p : ℕ} → LanesRotated m s p o → 32 ≤ p → o ≡ rotatedRow m s
-  unfolding rotatedRow halfOf
-  lanes-done {o} {p} F h = is-tabulate 0 o 768 _ (F .long) (λ j b. at j (ℕ-discrete (j % 2) 0) b)
-    where
-      word : ℕ → ℕ
-      word i = rotated (m * (i % 32) % 110) (wordAt s i)
+-- ---- as numbers
 
-      at : (j : ℕ) → Dec (j % 2 ≡ 0) → j < 768 → getD o j 0 ≡ cond (eqb (j % 2) 0) (word (j / 2) / 2 ^ 64) (word (j / 2) % 2 ^ 64)
-      at j (yes q) b =
-          let e : j ≡ 2 * (j / 2) = omega arith in
-          rw q (ap (λ (k : ℕ). getD o k 0) e ∙ F .below (j / 2) (omega arith) (omega arith) .0)
-      at j (no ne) b =
-          let e : j ≡ 2 * (j / 2) + 1 = omega arith in
-          let q : j % 2 ≡ 1 = omega arith in
-          rw q (ap (λ (k : ℕ). getD o k 0) e ∙ F .below (j / 2) (omega arith) (omega arith) .1)
+-- two numbers stored are a word
+pub numbers-stored : (o : List ℕ) (i x y w : ℕ) → length o ≡ 768 → i < 384 → x ≡ w / 2 ^ 64 → y ≡ w % 2 ^ 64
+    → Holds (set (set o (2 * i) x) (2 * i + 1) y) i w × ((j : ℕ) → j / 2 ≢ i → getD (set (set o (2 * i) x) (2 * i + 1) y) j 0 ≡ getD o j 0)
+numbers-stored o i x y w e h ex ey = (
+  (
+    getD-set-other (set o (2 * i) x) (2 * i + 1) (2 * i) y 0 (omega arith) ∙ getD-set-same o (2 * i) x 0 (omega arith) ∙ ex,
+    getD-set-same (set o (2 * i) x) (2 * i + 1) y 0 (omega (arith, length-set o (2 * i) x)) ∙ ey,
+  ),
+  λ j ne. getD-set-other (set o (2 * i) x) (2 * i + 1) j y 0 (λ q. ne (omega arith)) ∙ getD-set-other o (2 * i) j x 0 (λ q. ne (omega arith)),
+)
+
+pub numbers-done : {m : ℕ} {s o : List ℕ} {p : ℕ} → LanesRotated Holds 2 m s p o → 32 ≤ p → o ≡ rotatedRow m s
+unfolding rotatedRow halfOf
+numbers-done {m} {s} {o} {p} F h = is-tabulate 0 o 768 _ (F .long) (λ j b. at j (ℕ-discrete (j % 2) 0) b)
+  where
+    word : ℕ → ℕ
+    word i = rotated (m * (i % 32) % 110) (wordAt s i)
+
+    at : (j : ℕ) → Dec (j % 2 ≡ 0) → j < 768 → getD o j 0 ≡ cond (eqb (j % 2) 0) (word (j / 2) / 2 ^ 64) (word (j / 2) % 2 ^ 64)
+    at j (yes q) b =
+        let e : j ≡ 2 * (j / 2) = omega arith in
+        rw q (ap (λ (k : ℕ). getD o k 0) e ∙ F .below (j / 2) (omega arith) (omega arith) .0)
+    at j (no ne) b =
+        let e : j ≡ 2 * (j / 2) + 1 = omega arith in
+        let q : j % 2 ≡ 1 = omega arith in
+        rw q (ap (λ (k : ℕ). getD o k 0) e ∙ F .below (j / 2) (omega arith) (omega arith) .1)
+
+-- ---- as bytes
+
+-- a byte of a number's upper or lower 64 bits
+upper-byte : (w b : ℕ) → b < 8 → w / 2 ^ 64 / 2 ^ (8 * (8 - 1 - b)) % 256 ≡ w / 2 ^ (8 * (15 - b)) % 256
+upper-byte w b h =
+    let e : 64 + 8 * (8 - 1 - b) ≡ 8 * (15 - b) = omega arith in
+    ap (λ (x : ℕ). x % 256) (div-div-eq-div-mul w (2 ^ 64) (2 ^ (8 * (8 - 1 - b))) ∙ ap (λ (x : ℕ). w / x) (sym (pow-add 2 64 (8 * (8 - 1 - b))))
+    ∙ ap (λ (k : ℕ). w / 2 ^ k) e)
+
+lower-byte : (w b : ℕ) → b < 8 → w % 2 ^ 64 / 2 ^ (8 * (8 - 1 - b)) % 256 ≡ w / 2 ^ (8 * (15 - (8 + b))) % 256
+lower-byte w b h =
+    let e : 8 * b + 8 + 8 * (8 - 1 - b) ≡ 64 = omega arith in
+    let d : 8 * (8 - 1 - b) ≡ 8 * (15 - (8 + b)) = omega arith in
+    ap (λ (k : ℕ). w % 2 ^ k / 2 ^ (8 * (8 - 1 - b)) % 256) (sym e)
+    ∙ ap (λ (x : ℕ). x % 256) (field w (8 * b + 8) (8 * (8 - 1 - b)))
+    ∙ mod-mod-pow (w / 2 ^ (8 * (8 - 1 - b))) (8 * b) 8
+    ∙ ap (λ (k : ℕ). w / 2 ^ k % 256) d
+
+-- two numbers put are a word
+pub numbers-put : {o o′ o″ : List ℕ} (i x y w : ℕ) → Put 8 x (16 * i) o o′ → Put 8 y (16 * i + 8) o′ o″ → x ≡ w / 2 ^ 64 → y ≡ w % 2 ^ 64
+    → HoldsBytes o″ i w × ((j : ℕ) → j / 16 ≢ i → getD o″ j 0 ≡ getD o j 0)
+numbers-put {o} {o′} {o″} i x y w P Q ex ey = ((λ b h. here b (decLt b 8) h), λ j ne. there j (decLt j (16 * i)) ne)
+  where
+    here : (b : ℕ) → Dec (b < 8) → b < 16 → getD o″ (16 * i + b) 0 ≡ w / 2 ^ (8 * (15 - b)) % 256
+    here b (yes l) h =
+        Q .before (16 * i + b) (omega arith) ∙ put-byte P b l ∙ ap (λ (v : ℕ). v / 2 ^ (8 * (8 - 1 - b)) % 256) ex ∙ upper-byte w b l
+    here b (no l) h =
+        let c = b - 8 in
+        let e : 16 * i + b ≡ 16 * i + 8 + c = omega arith in
+        let d : 8 + c ≡ b = omega arith in
+        ap (λ (m : ℕ). getD o″ m 0) e ∙ put-byte Q c (omega arith) ∙ ap (λ (v : ℕ). v / 2 ^ (8 * (8 - 1 - c)) % 256) ey ∙ lower-byte w c (omega arith)
+        ∙ ap (λ (k : ℕ). w / 2 ^ (8 * (15 - k)) % 256) d
+
+    there : (j : ℕ) → Dec (j < 16 * i) → j / 16 ≢ i → getD o″ j 0 ≡ getD o j 0
+    there j (yes l) ne = Q .before j (omega arith) ∙ P .before j l
+    there j (no l) ne =
+        let far : 16 * i + 16 ≤ j = beyond j l ne in
+        Q .after j (omega arith) ∙ P .after j (omega arith)
+      where
+        beyond : (j : ℕ) → (j < 16 * i → ⊥) → j / 16 ≢ i → 16 * i + 16 ≤ j
+        beyond j l ne = omega arith
+
+pub bytes-done : {m : ℕ} {s o : List ℕ} {p : ℕ} → LanesRotated HoldsBytes 16 m s p o → 32 ≤ p → o ≡ wordBytes 384 (rotatedRow m s)
+unfolding wordBytes rotatedRow rotated
+bytes-done {m} {s} {o} {p} F h = is-tabulate 0 o 6144 _ (F .long) at
+  where
+    word : ℕ → ℕ
+    word i = rotated (m * (i % 32) % 110) (wordAt s i)
+
+    at : (j : ℕ) → j < 6144 → getD o j 0 ≡ wordAt (rowOf 384 word) (j / 16) / 2 ^ (8 * (15 - j % 16)) % 256
+    at j b =
+        let e : j ≡ 16 * (j / 16) + j % 16 = omega arith in
+        ap (λ (k : ℕ). getD o k 0) e ∙ F .below (j / 16) (omega arith) (omega arith) (j % 16) (omega arith)
+        ∙ ap (λ (w : ℕ). w / 2 ^ (8 * (15 - j % 16)) % 256) (sym (row-at 384 word (j / 16) (omega arith) (value-lt 2 126 _ (λ r _. bit-lt 126 _ _))))
+
+-- ---- a number's bytes in the other order
+
+-- eight bytes as a number
+pub eight-bytes : (a b c d e f g h : ℕ) → a < 256 → b < 256 → c < 256 → d < 256 → e < 256 → f < 256 → g < 256 → h < 256
+    → a * 2 ^ 56 + b * 2 ^ 48 + c * 2 ^ 40 + d * 2 ^ 32 + e * 2 ^ 24 + f * 65536 + g * 256 + h < 2 ^ 64
+eight-bytes a b c d e f g h ha hb hc hd he hf hg hh = omega arith
+
+pub reversed-law : (v : ℕ) → v < 2 ^ 64
+    → v % 256 * 2 ^ 56 + v / 256 % 256 * 2 ^ 48 + v / 65536 % 256 * 2 ^ 40 + v / 2 ^ 24 % 256 * 2 ^ 32 + v / 2 ^ 32 % 256 * 2 ^ 24 + v / 2 ^ 40 % 256 * 65536
+    + v / 2 ^ 48 % 256 * 256 + v / 2 ^ 56 ≡ reversed v
+unfolding reversed value
+reversed-law v h =
+    sums (v % 256) _ (v / 256 % 256) (v / 65536 % 256) (v / 2 ^ 24 % 256) (v / 2 ^ 32 % 256) (v / 2 ^ 40 % 256) (v / 2 ^ 48 % 256) _ _
+    (omega arith) (omega arith)
+  where
+    sums : (a a′ b c d e f g h h′ : ℕ) → a ≡ a′ → h ≡ h′
+        → a * 2 ^ 56 + b * 2 ^ 48 + c * 2 ^ 40 + d * 2 ^ 32 + e * 2 ^ 24 + f * 65536 + g * 256 + h
+        ≡ (((((((0 * 256 + a′) * 256 + b) * 256 + c) * 256 + d) * 256 + e) * 256 + f) * 256 + g) * 256 + h′
+    sums a a′ b c d e f g h h′ p q = omega arith
+
+-- the byte that stands at a place from below
+pub reversed-byte : (v j : ℕ) → j < 8 → reversed v / 2 ^ (8 * j) % 256 ≡ v / 2 ^ (8 * (8 - (j + 1))) % 256
+unfolding reversed
+reversed-byte v j h =
+    let e : j ≡ 8 - 1 - (8 - (j + 1)) = omega arith in
+    rw byte-pow
+    (ap (λ (k : ℕ). value 256 8 (λ i. v / 2 ^ (8 * i) % 256) / 256 ^ k % 256) e
+    ∙ value-digit 256 8 (λ i. v / 2 ^ (8 * i) % 256) (λ i _. mod-lt (v / 2 ^ (8 * i)) (lit< tt)) (8 - (j + 1)) (omega arith))

@@ -1,10 +1,12 @@
 // The shuffle: the information of each word of a row rotated, that of lane p by 20 p places, and rotated back.
 // A word is two numbers: hi has bits 0 to 61 in its 62 low bits, lo has bits 62 to 125. Word 32 k + p of a row is word k of lane p.
 ghost use mathlib.Core.Path.{_≡_};
-ghost use Prim.Native.Nat.{_<_, _+_, _*_, _/_, _%_, _^_};
+ghost use Prim.Native.Nat.{_<_, _≤_, _+_, _*_, _/_, _%_, _^_};
 ghost use lib.ListN.{length};
+ghost use Rattle.bits.specs.definitions.Words.{wordBytes};
+ghost use Rattle.bits.specs.private.Joins.{Put};
 ghost use Rattle.shuffle.specs.definitions.Shuffle.{shuffled, unshuffled};
-ghost use Rattle.shuffle.specs.private.Rotation.{crossed, rotatedFirst, rotated, LaneRotated, rotatedRow};
+ghost use Rattle.shuffle.specs.private.Rotation.{crossed, rotatedFirst, rotated, Holds, HoldsBytes, LaneRotated, rotatedRow, reversed};
 
 // A word in two numbers.
 struct Word {
@@ -75,7 +77,7 @@ fn rotate(hi: u64, lo: u64, n: u64) -> Word
 fn rotate_lane(words: &[u64], p: usize, n: u64, out: &mut [u64])
     requires { ⌜ (length (now words) ≡ 768) × (length (now out) ≡ 768) ⌝ }
     requires { ⌜ (p < 32) × (n < 110) ⌝ }
-    ensures { λ _. ⌜ LaneRotated n p (now (words .entry)) (now (out .entry)) 12 (now (out .exit)) ⌝ }
+    ensures { λ _. ⌜ LaneRotated Holds 2 n p (now (words .entry)) (now (out .entry)) 12 (now (out .exit)) ⌝ }
 {
     let mut k: usize = 0;
     while k < 12 {
@@ -90,10 +92,10 @@ fn rotate_lane(words: &[u64], p: usize, n: u64, out: &mut [u64])
 }
 
 // The same by a literal for each amount that the shuffle has: compiled so, the shifts take half the time.
-fn shuffle_lane(words: &[u64], p: usize, n: u64, out: &mut [u64])
+fn unshuffle_lane(words: &[u64], p: usize, n: u64, out: &mut [u64])
     requires { ⌜ (length (now words) ≡ 768) × (length (now out) ≡ 768) ⌝ }
     requires { ⌜ (p < 32) × (n < 110) ⌝ }
-    ensures { λ _. ⌜ LaneRotated n p (now (words .entry)) (now (out .entry)) 12 (now (out .exit)) ⌝ }
+    ensures { λ _. ⌜ LaneRotated Holds 2 n p (now (words .entry)) (now (out .entry)) 12 (now (out .exit)) ⌝ }
 {
     match n {
         0 => rotate_lane(words, p, 0, out),
@@ -120,16 +122,98 @@ fn rotate_words(words: &[u64], places: usize, out: &mut [u64])
     let mut p: usize = 0;
     while p < 32 {
         let n = (places * p % 110) as u64;
-        shuffle_lane(words, p, n, out);
+        unshuffle_lane(words, p, n, out);
         p += 1;
     }
 }
 
-// Each word's bits at their places.
-pub fn shuffle_words(words: &[u64; 768], out: &mut [u64; 768])
-    ensures { λ _. ⌜ now (out .exit) ≡ shuffled (now (words .entry)) ⌝ }
+// A number's eight bytes in the other order: the compiler has one instruction for it.
+fn reversed(v: u64) -> u64
+    ensures { λ r. ⌜ r ≡ reversed v ⌝ }
 {
-    rotate_words(words, 20, out);
+    v % 256 * bits::TWO_56
+        + v / 256 % 256 * bits::TWO_48
+        + v / 65536 % 256 * bits::TWO_40
+        + v / bits::TWO_24 % 256 * bits::TWO_32
+        + v / bits::TWO_32 % 256 * bits::TWO_24
+        + v / bits::TWO_40 % 256 * 65536
+        + v / bits::TWO_48 % 256 * 256
+        + v / bits::TWO_56
+}
+
+// v as the eight bytes from byte o on: reversed first, so that the compiler makes one move of them.
+fn put(out: &mut [u8], o: usize, v: u64)
+    requires { ⌜ o + 8 ≤ length (now out) ⌝ }
+    ensures { λ _. ⌜ Put 8 v o (now (out .entry)) (now (out .exit)) ⌝ }
+{
+    let w = reversed(v);
+    let mut j: usize = 0;
+    while j < 8 {
+        let k = (8 * j) as u64;
+        out[o + j] = bits::low_byte(w >> k);
+        j += 1;
+    }
+}
+
+// The twelve words of lane p rotated by n places, each put as sixteen bytes.
+fn put_lane(words: &[u64], p: usize, n: u64, out: &mut [u8])
+    requires { ⌜ (length (now words) ≡ 768) × (length (now out) ≡ 6144) ⌝ }
+    requires { ⌜ (p < 32) × (n < 110) ⌝ }
+    ensures { λ _. ⌜ LaneRotated HoldsBytes 16 n p (now (words .entry)) (now (out .entry)) 12 (now (out .exit)) ⌝ }
+{
+    let mut k: usize = 0;
+    while k < 12 {
+        let i = 32 * k + p;
+        let hi = words[2 * i];
+        let lo = words[2 * i + 1];
+        let w = rotate(hi % bits::TWO_62, lo, n);
+        put(out, 16 * i, w.hi);
+        put(out, 16 * i + 8, w.lo);
+        k += 1;
+    }
+}
+
+// By a literal for each amount, as in `unshuffle_lane`.
+fn place_lane(words: &[u64], p: usize, n: u64, out: &mut [u8])
+    requires { ⌜ (length (now words) ≡ 768) × (length (now out) ≡ 6144) ⌝ }
+    requires { ⌜ (p < 32) × (n < 110) ⌝ }
+    ensures { λ _. ⌜ LaneRotated HoldsBytes 16 n p (now (words .entry)) (now (out .entry)) 12 (now (out .exit)) ⌝ }
+{
+    match n {
+        0 => put_lane(words, p, 0, out),
+        10 => put_lane(words, p, 10, out),
+        20 => put_lane(words, p, 20, out),
+        30 => put_lane(words, p, 30, out),
+        40 => put_lane(words, p, 40, out),
+        50 => put_lane(words, p, 50, out),
+        60 => put_lane(words, p, 60, out),
+        70 => put_lane(words, p, 70, out),
+        80 => put_lane(words, p, 80, out),
+        90 => put_lane(words, p, 90, out),
+        100 => put_lane(words, p, 100, out),
+        _ => put_lane(words, p, n, out),
+    }
+}
+
+// Each word of a row rotated, a word of lane p by so many places times p, as bytes.
+fn place_words(words: &[u64], places: usize, out: &mut [u8])
+    requires { ⌜ (length (now words) ≡ 768) × (length (now out) ≡ 6144) ⌝ }
+    requires { ⌜ places < 110 ⌝ }
+    ensures { λ _. ⌜ now (out .exit) ≡ wordBytes 384 (rotatedRow places (now (words .entry))) ⌝ }
+{
+    let mut p: usize = 0;
+    while p < 32 {
+        let n = (places * p % 110) as u64;
+        place_lane(words, p, n, out);
+        p += 1;
+    }
+}
+
+// Each word's bits at their places, as the bytes of its two numbers.
+pub fn shuffle_words(words: &[u64; 768], out: &mut [u8; 6144])
+    ensures { λ _. ⌜ now (out .exit) ≡ wordBytes 384 (shuffled (now (words .entry))) ⌝ }
+{
+    place_words(words, 20, out);
 }
 
 // And back: a rotation by 20 p and one by 90 p bring each bit back.

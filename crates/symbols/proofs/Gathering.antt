@@ -207,7 +207,7 @@ module _ (f : List ℕ) (g r : ℕ) (h : g < 96) (b : r < 4) where
       (ap (λ (k : ℕ). bitOf 8 (getD f (g * 64 + 1 + j) 0) (2 * tributaryIn l r + k)) y ∙ sym (placed-at j 0 hj (omega arith)) ∙ ap bitsOf z)
       (sym (placed-at j 1 hj (omega arith)))
 
-  -- the dibit of symbol x of half u of the group, behind the pilot
+  -- the dibit of symbol x of half u of the row, behind the pilot
   half-dibit : (u x : ℕ) → u < 2 → x < 32 → 1 ≤ 32 * u + x
       → dibitOf (g * 63 + 3 + x) r (getD (drop (g * 64 + u * 32) f) x 0) ≡ bitsOf (64 * u + 2 * x - 2) * 2 + bitsOf (64 * u + 2 * x - 1)
   half-dibit u x hu hx behind =
@@ -286,8 +286,8 @@ order-lt j h = omega arith
 
 -- number r of half h of a frame
 module _ (f : List ℕ) (h r : ℕ) (b : r < 4) where
-  group-of : h / 2 ≡ (h / 2 * 8 + h % 2 + 2 * r) / 8
-  group-of = omega arith
+  row-of : h / 2 ≡ (h / 2 * 8 + h % 2 + 2 * r) / 8
+  row-of = omega arith
 
   part-of : h % 2 ≡ (h / 2 * 8 + h % 2 + 2 * r) % 2
   part-of = omega arith
@@ -300,11 +300,11 @@ module _ (f : List ℕ) (h r : ℕ) (b : r < 4) where
   number-is =
       let d : h * 32 ≡ h / 2 * 64 + h % 2 * 32 = omega arith in
       ap (λ (n : ℕ). gathered 32 (h / 2 * 63 + 3) (drop n f) r) d
-      ∙ λ k. gathered 32 (group-of k * 63 + 3) (drop (group-of k * 64 + part-of k * 32) f) (lane-of k)
+      ∙ λ k. gathered 32 (row-of k * 63 + 3) (drop (row-of k * 64 + part-of k * 32) f) (lane-of k)
 
   order-is : order (h / 2 * 8 + h % 2 + 2 * r) ≡ 4 * h + r
   unfolding order
-  order-is = let e : h / 2 * 8 + h % 2 * 4 + r ≡ 4 * h + r = omega arith in sym (λ k. group-of k * 8 + part-of k * 4 + lane-of k) ∙ e
+  order-is = let e : h / 2 * 8 + h % 2 * 4 + r ≡ 4 * h + r = omega arith in sym (λ k. row-of k * 8 + part-of k * 4 + lane-of k) ∙ e
 
 -- the first m numbers that are stored are there
 pub record Gathering (f : List ℕ) (m : ℕ) (s : List ℕ) : Type 0 where

@@ -1,32 +1,32 @@
--- From words to symbols: a symbol's byte from the numbers of four lanes, and the frame of words that were shuffled.
+-- From words to symbols: a symbol's byte from a dibit of each of four lanes, the frame's symbols by quarters, and the frame of words that were shuffled.
 -- Assumes nothing.
 use mathlib.Core.Path.{_≡_, refl, sym, ap, ap₂, _∙_, subst}
-use mathlib.Core.Bool.{cond}
+use mathlib.Core.Bool.{Bool, true, false, cond, _&&_}
 use mathlib.Core.List.{List, _++_}
 use Prim.Native.Nat.{ℕ, zero, suc, _+_, _-_, _*_, _/_, _%_, _^_, _<_, _≤_}
-use native.Mathlib.Nat.{pow-suc, div-div-eq-div-mul, add-mul-mod-self-right}
-use native.Mathlib.Decide.{ℕ-discrete}
+use native.Mathlib.Nat.{pow-suc, mul-suc, mod-lt, div-div-eq-div-mul, add-mul-mod-self-right}
+use native.Mathlib.Decide.{ℕ-discrete, decLt}
 use native.Mathlib.Omega.{arith}
-use lib.Dec.{eqb}
+use lib.Dec.{T, eqb, ltb, eqb→eq, ltb→lt, lit<}
 use lib.ListN.{length, getD, set, take, drop, length-set, length-take, length-drop}
 use lib.Seq.{getD-set-same, getD-set-other}
-use lib.Pow.{pow-add}
-use borrow.Author.Tests.{eq-eqb, ne-eqb}
+use lib.Pow.{pow-add, shl-exact, field, mod-mod-pow}
+use borrow.Author.Tests.{eq-eqb, ne-eqb, lt-ltb, le-ltb}
 use Rattle.bits.specs.definitions.Bits.{tabulate, value, number, bitOf}
-use Rattle.bits.specs.definitions.Words.{wordAt, rowOf, halfOf}
+use Rattle.bits.specs.definitions.Words.{wordAt, rowOf, wordBytes}
+use Rattle.bits.proofs.Table.{each, range-rule, and-left, and-right}
 use Rattle.bits.proofs.Tabulate.{getD-tabulate, tabulate-cong, is-tabulate}
-use Rattle.bits.proofs.Filling.{Filling, filling-step, filling-at, filling-put, filling-done}
-use Rattle.bits.proofs.Value.{value-cong, value-lt, value-top, value-low, bit-lt, bit-number, number-bits}
+use Rattle.bits.proofs.Filling.{Filling, filling-at, filling-put}
+use Rattle.bits.proofs.Value.{value-cong, value-lt, bit-lt, bit-number}
+use Rattle.bits.proofs.Words.{row-at}
 use Rattle.shuffle.specs.definitions.Shuffle.{unplace, shuffled}
 use Rattle.symbols.specs.definitions.Mapping.{laneOf, upper, lower}
 use Rattle.pilots.specs.definitions.Table5.{pilots}
 use Rattle.symbols.specs.definitions.Frame.{carriedBit, payload, symbolAt, frameOf}
-use Rattle.mapper_tables.specs.private.Tables.{laneIn, tributaryIn, partOf, partsOf, IsParts}
-use Rattle.symbols.specs.declared.Quad.{Quad}
-use Rattle.symbols.specs.private.Numbers.{numberOf, quadAt, symbolFrom, fourSymbols, behindPilot, groupSymbol, mappedAt}
-use Rattle.mapper_tables.proofs.Entries.{mapped, parts-whole}
+use Rattle.mapper_tables.specs.private.Tables.{laneIn, tributaryIn, mapped}
+use Rattle.symbols.specs.private.Numbers.{dibitIn, dibitsAt, swapped, quarterAt, byteOfTwo}
 
--- ---- a symbol's number by its remainder, and the table
+-- ---- a symbol's number by its remainder
 
 lane-lt : (l t : ℕ) → laneIn l t < 4
 unfolding laneIn
@@ -50,40 +50,75 @@ mapped-mod : (l y : ℕ) → mapped (l % 4) y ≡ mapped l y
 unfolding mapped
 mapped-mod l y = value-cong 2 8 _ _ (λ i b. let e : (i + l % 4) % 2 ≡ (i + l) % 2 = omega arith in λ k. bitOf 8 y (2 * lane-mod l (i / 2) k + e k))
 
-part-mod : (l r d : ℕ) → partOf (l % 4) r d ≡ partOf l r d
-unfolding partOf
-part-mod l r d =
-    let e : l % 4 % 2 ≡ l % 2 = omega arith in
-    let f : (l % 4 + 1) % 2 ≡ (l + 1) % 2 = omega arith in
-    λ k. (bitOf 2 d (e k) * 2 + bitOf 2 d (f k)) * 4 ^ (3 - tributary-mod l r k)
+-- ---- a symbol from a dibit of each of four bytes
 
-part-at : (l x r d : ℕ) → partOf (l % 4 + x) r d ≡ partOf (l + x) r d
-part-at l x r d =
-    let e : (l % 4 + x) % 4 ≡ (l + x) % 4 = omega arith in
-    sym (part-mod (l % 4 + x) r d) ∙ ap (λ (m : ℕ). partOf m r d) e ∙ part-mod (l + x) r d
+four-pow : (k : ℕ) → 2 ^ (2 * k) ≡ 4 ^ k
+four-pow zero = refl
+four-pow (suc k) = rw (mul-suc, pow-add, pow-suc 4 k, four-pow k)
 
-pub parts-at : (t : List ℕ) (l r b : ℕ) → IsParts t → r < 4 → b < 256 → getD t (1024 * (l % 4) + 256 * r + b) 0 ≡ partsOf l r b
-unfolding partsOf
-parts-at t l r b C h c =
-    C .entry (l % 4) r b (omega arith) h c
-    ∙ λ k. part-mod l r (b / 64) k * 2 ^ 24 + part-at l 1 r (b / 16 % 4) k * 2 ^ 16 + part-at l 2 r (b / 4 % 4) k * 2 ^ 8 + part-at l 3 r (b % 4) k
+-- `((x >> (6 - 2 e)) % 4) << (6 - 2 t)`
+pub put-dibit-law : (x e t : ℕ) → e < 4 → t < 4 → x / 2 ^ (6 - 2 * e) % 4 * 2 ^ (6 - 2 * t) % 256 ≡ dibitIn e x * 4 ^ (3 - t)
+put-dibit-law x e t he ht =
+    let p : 6 - 2 * e ≡ 2 * (3 - e) = omega arith in
+    let q : 6 - 2 * t ≡ 2 * (3 - t) = omega arith in
+    shl-exact 2 (6 - 2 * t) 8 (mod-lt (x / 2 ^ (6 - 2 * e)) (lit< tt)) (omega arith)
+    ∙ λ k. x / (ap (λ (n : ℕ). 2 ^ n) p ∙ four-pow (3 - e)) k % 4 * (ap (λ (n : ℕ). 2 ^ n) q ∙ four-pow (3 - t)) k
 
--- what four lanes put into a symbol's byte
-parts-of : (l y : ℕ) → y < 256 → partOf l 0 (y / 64) + partOf l 1 (y / 16 % 4) + partOf l 2 (y / 4 % 4) + partOf l 3 (y % 4) ≡ mapped l y
-parts-of l y h =
-    sym (λ k. part-mod l 0 (y / 64) k + part-mod l 1 (y / 16 % 4) k + part-mod l 2 (y / 4 % 4) k + part-mod l 3 (y % 4) k)
-    ∙ parts-whole (l % 4) y (omega arith) h ∙ mapped-mod l y
+-- four dibits at the tributaries of their lanes
+abbrev pub atTributaries : ℕ → ℕ → ℕ → ℕ → ℕ → ℕ
+atTributaries l a b c d =
+    a * 4 ^ (3 - tributaryIn l 0) + b * 4 ^ (3 - tributaryIn l 1) + c * 4 ^ (3 - tributaryIn l 2) + d * 4 ^ (3 - tributaryIn l 3)
 
-parts-sum : (l a b c d : ℕ) → a < 4 → b < 4 → c < 4 → d < 4 → partOf l 0 a + partOf l 1 b + partOf l 2 c + partOf l 3 d ≡ mapped l (a * 64 + b * 16 + c * 4 + d)
-parts-sum l a b c d ha hb hc hd =
+-- in an odd symbol the two bits of each are swapped
+abbrev pub turned : ℕ → ℕ → ℕ
+turned l v = cond (eqb (l % 2) 1) (swapped v) v
+
+placed : ℕ → ℕ → ℕ
+placed l y = atTributaries l (y / 64) (y / 16 % 4) (y / 4 % 4) (y % 4)
+
+right : ℕ → ℕ → Bool
+right l y = eqb (turned l (placed l y)) (mapped l y)
+
+small : ℕ → ℕ → Bool
+small l y = ltb (placed l y) 256
+
+mapped-test : T (each (λ k. right (k / 256) (k % 256) && small (k / 256) (k % 256)) 1024 0)
+unfolding right small placed tributaryIn swapped mapped laneIn value bitOf
+mapped-test = tt
+
+pub symbol-sum : (l a b c d : ℕ) → l < 4 → a < 4 → b < 4 → c < 4 → d < 4
+    → (turned l (atTributaries l a b c d) ≡ mapped l (a * 64 + b * 16 + c * 4 + d)) × (atTributaries l a b c d < 256)
+unfolding right small placed
+symbol-sum l a b c d hl ha hb hc hd =
     let y = a * 64 + b * 16 + c * 4 + d in
-    let p : a ≡ y / 64 = omega arith in
-    let q : b ≡ y / 16 % 4 = omega arith in
-    let r : c ≡ y / 4 % 4 = omega arith in
-    let s : d ≡ y % 4 = omega arith in
-    (λ k. partOf l 0 (p k) + partOf l 1 (q k) + partOf l 2 (r k) + partOf l 3 (s k)) ∙ parts-of l y (omega arith)
+    let k = 256 * l + y in
+    let el : k / 256 ≡ l = omega arith in
+    let ey : k % 256 ≡ y = omega arith in
+    let ea : k % 256 / 64 ≡ a = omega arith in
+    let eb : k % 256 / 16 % 4 ≡ b = omega arith in
+    let ec : k % 256 / 4 % 4 ≡ c = omega arith in
+    let ed : k % 256 % 4 ≡ d = omega arith in
+    let same : placed (k / 256) (k % 256) ≡ atTributaries l a b c d = λ i. atTributaries (el i) (ea i) (eb i) (ec i) (ed i) in
+    let test = range-rule (λ k. right (k / 256) (k % 256) && small (k / 256) (k % 256)) 1024 0 mapped-test k (omega arith) (omega arith) in
+    let R = and-left (right (k / 256) (k % 256)) (small (k / 256) (k % 256)) test in
+    let S = and-right (right (k / 256) (k % 256)) (small (k / 256) (k % 256)) test in (
+      (λ i. turned (sym el i) (sym same i)) ∙ eqb→eq (turned (k / 256) (placed (k / 256) (k % 256))) (mapped (k / 256) (k % 256)) R ∙ ap₂ mapped el ey,
+      subst (λ (v : ℕ). v < 256) same (ltb→lt (placed (k / 256) (k % 256)) 256 S),
+    )
 
--- ---- a symbol from four numbers
+-- the same from what the code puts at each tributary
+pub symbol-values : (l a b c d w x y z : ℕ) → l < 4 → a < 4 → b < 4 → c < 4 → d < 4
+    → let f = 3 * (2 * l + l / 2 % 2) in
+    w ≡ a * 4 ^ (3 - f % 4) → x ≡ b * 4 ^ (3 - (1 + f) % 4) → y ≡ c * 4 ^ (3 - (2 + f) % 4) → z ≡ d * 4 ^ (3 - (3 + f) % 4)
+    → (turned l (w + x + y + z) ≡ mapped l (a * 64 + b * 16 + c * 4 + d)) × (w + x + y + z < 256)
+unfolding tributaryIn
+symbol-values l a b c d w x y z hl ha hb hc hd p q r s =
+    let n : 3 * (2 * l + l / 2 % 2) ≡ 0 + 3 * (2 * l + l / 2 % 2) = omega arith in
+    let e : w + x + y + z ≡ atTributaries l a b c d = λ k. (p ∙ ap (λ (m : ℕ). a * 4 ^ (3 - m % 4)) n) k + q k + r k + s k in
+    let h = symbol-sum l a b c d hl ha hb hc hd in
+    (ap (turned l) e ∙ h .0, subst (λ (v : ℕ). v < 256) (sym e) (h .1))
+
+-- ---- a symbol by its words' bits
 
 -- a dibit by a shift
 dibit-bits : (n a i : ℕ) → i < n → a / 2 ^ (2 * (n - (i + 1))) % 4 ≡ bitOf (2 * n) a (2 * i + 0) * 2 + bitOf (2 * n) a (2 * i + 1)
@@ -93,6 +128,10 @@ dibit-bits n a i h =
     let e : 2 * n - 1 - (2 * i + 0) ≡ suc k = omega arith in
     let d : 2 * n - 1 - (2 * i + 1) ≡ k = omega arith in
     rw (e, d, pow-suc 2 k, ← div-div-eq-div-mul) (omega arith)
+
+-- symbol i of n, the first of which is number l, that the n low dibits of four numbers make
+unfoldable symbolFrom : ℕ → ℕ → (ℕ → ℕ) → ℕ → ℕ
+symbolFrom n l w i = number 8 (λ k. bitOf (2 * n) (w (laneIn (l + i) (k / 2))) (2 * i + (k + (l + i)) % 2))
 
 -- four dibits in the lanes' order
 module _ (n i : ℕ) (w : ℕ → ℕ) where
@@ -119,208 +158,53 @@ module _ (n i : ℕ) (w : ℕ → ℕ) where
           ∙ bit-number 8 dibitBit (λ k _. bit-lt (2 * n) (w (k / 2)) (2 * i + k % 2)) (2 * r + u) (omega arith)
           ∙ ap₂ (λ (a b : ℕ). bitOf (2 * n) (w a) (2 * i + b)) d m
 
--- ---- four symbols side by side
+-- ---- a symbol from its words' bytes
 
-symbol-lt : (n l : ℕ) (w : ℕ → ℕ) (i : ℕ) → symbolFrom n l w i < 256
-unfolding symbolFrom
-symbol-lt n l w i = value-lt 2 8 _ (λ k _. bit-lt (2 * n) _ _)
+-- byte k of word i
+word-byte : (s : List ℕ) (i k : ℕ) → i < 384 → k < 16 → getD (wordBytes 384 s) (16 * i + k) 0 ≡ wordAt s i / 2 ^ (8 * (15 - k)) % 256
+unfolding wordBytes
+word-byte s i k h l =
+    let d : (16 * i + k) / 16 ≡ i = omega arith in
+    let m : (16 * i + k) % 16 ≡ k = omega arith in
+    getD-tabulate 6144 _ (16 * i + k) 0 (omega arith) ∙ λ x. wordAt s (d x) / 2 ^ (8 * (15 - m x)) % 256
 
-record Digits (m l : ℕ) (w : ℕ → ℕ) (v : ℕ) : Type 0 where
-  pub first : v / 2 ^ 24 % 256 ≡ symbolFrom (m + 4) l w 0
-  pub second : v / 65536 % 256 ≡ symbolFrom (m + 4) l w 1
-  pub third : v / 256 % 256 ≡ symbolFrom (m + 4) l w 2
-  pub fourth : v % 256 ≡ symbolFrom (m + 4) l w 3
+-- its dibit e is dibit 4 k + e of the word's 64
+byte-dibit : (w k e : ℕ) → k < 16 → e < 4 → dibitIn e (w / 2 ^ (8 * (15 - k)) % 256) ≡ w / 2 ^ (2 * (64 - (4 * k + e + 1))) % 4
+byte-dibit w k e hk he =
+    let x = w / 2 ^ (8 * (15 - k)) in
+    let a : 2 * e + 2 + 2 * (3 - e) ≡ 8 = omega arith in
+    let d : 8 * (15 - k) + 2 * (3 - e) ≡ 2 * (64 - (4 * k + e + 1)) = omega arith in
+    ap (λ (n : ℕ). x % 256 / n % 4) (sym (four-pow (3 - e)))
+    ∙ ap (λ (n : ℕ). x % 2 ^ n / 2 ^ (2 * (3 - e)) % 4) (sym a)
+    ∙ ap (λ (n : ℕ). n % 4) (field x (2 * e + 2) (2 * (3 - e)))
+    ∙ mod-mod-pow (x / 2 ^ (2 * (3 - e))) (2 * e) 2
+    ∙ ap (λ (n : ℕ). n % 4)
+    (div-div-eq-div-mul w (2 ^ (8 * (15 - k))) (2 ^ (2 * (3 - e)))
+    ∙ ap (λ (n : ℕ). w / n) (sym (pow-add 2 (8 * (15 - k)) (2 * (3 - e)))) ∙ ap (λ (n : ℕ). w / 2 ^ n) d)
 
-digits : (m l : ℕ) (w : ℕ → ℕ) (v : ℕ) → v ≡ fourSymbols m l w → Digits m l w v
-unfolding fourSymbols
-digits m l w v e =
-    let a = symbol-lt (m + 4) l w 0 in
-    let b = symbol-lt (m + 4) l w 1 in
-    let c = symbol-lt (m + 4) l w 2 in
-    let d = symbol-lt (m + 4) l w 3 in
-    record { first = omega arith; second = omega arith; third = omega arith; fourth = omega arith }
-
-shift-more : (a k j : ℕ) → a / 2 ^ (k + j) ≡ a / 2 ^ k / 2 ^ j
-shift-more a k j = rw (pow-add 2 k j, ← div-div-eq-div-mul)
-
--- the four dibits above the m low ones, as those of a byte
-module _ (a m : ℕ) where
-  dibit-0 : a / 2 ^ (2 * (m + 4 - (0 + 1))) % 4 ≡ a / 2 ^ (2 * m) % 256 / 64
-  dibit-0 = let e : 2 * (m + 4 - (0 + 1)) ≡ 2 * m + 6 = omega arith in rw (e, shift-more a (2 * m) 6) (omega arith)
-
-  dibit-1 : a / 2 ^ (2 * (m + 4 - (1 + 1))) % 4 ≡ a / 2 ^ (2 * m) % 256 / 16 % 4
-  dibit-1 = let e : 2 * (m + 4 - (1 + 1)) ≡ 2 * m + 4 = omega arith in rw (e, shift-more a (2 * m) 4) (omega arith)
-
-  dibit-2 : a / 2 ^ (2 * (m + 4 - (2 + 1))) % 4 ≡ a / 2 ^ (2 * m) % 256 / 4 % 4
-  dibit-2 = let e : 2 * (m + 4 - (2 + 1)) ≡ 2 * m + 2 = omega arith in rw (e, shift-more a (2 * m) 2) (omega arith)
-
-  dibit-3 : a / 2 ^ (2 * (m + 4 - (3 + 1))) % 4 ≡ a / 2 ^ (2 * m) % 256 % 4
-  dibit-3 = let e : 2 * (m + 4 - (3 + 1)) ≡ 2 * m = omega arith in rw e (omega arith)
-
-module _ (m l : ℕ) (w : ℕ → ℕ) where
-  abbrev byteOf : ℕ → ℕ
-  byteOf r = w r / 2 ^ (2 * m) % 256
-
-  -- what the four lanes put into symbol x
-  column : (x : ℕ) (d : ℕ → ℕ) → x < 4 → ((r : ℕ) → d r < 4) → ((r : ℕ) → w r / 2 ^ (2 * (m + 4 - (x + 1))) % 4 ≡ d r)
-      → partOf (l + x) 0 (d 0) + partOf (l + x) 1 (d 1) + partOf (l + x) 2 (d 2) + partOf (l + x) 3 (d 3) ≡ symbolFrom (m + 4) l w x
-  column x d h small e =
-      parts-sum (l + x) (d 0) (d 1) (d 2) (d 3) (small 0) (small 1) (small 2) (small 3)
-      ∙ symbol-law (m + 4) x w l _ (omega arith) (λ k. sym (e 0) k * 64 + sym (e 1) k * 16 + sym (e 2) k * 4 + sym (e 3) k)
-
-  four-sum : partsOf l 0 (byteOf 0) + partsOf l 1 (byteOf 1) + partsOf l 2 (byteOf 2) + partsOf l 3 (byteOf 3) ≡ fourSymbols m l w
-  unfolding partsOf fourSymbols
-  four-sum =
-      let z : l + 0 ≡ l = omega arith in
-      let c0 = column 0 (λ r. byteOf r / 64) (omega arith) (λ r. omega arith) (λ r. dibit-0 (w r) m) in
-      let s0 = (λ k. first (sym z k)) ∙ c0 in
-      let s1 = column 1 (λ r. byteOf r / 16 % 4) (omega arith) (λ r. omega arith) (λ r. dibit-1 (w r) m) in
-      let s2 = column 2 (λ r. byteOf r / 4 % 4) (omega arith) (λ r. omega arith) (λ r. dibit-2 (w r) m) in
-      let s3 = column 3 (λ r. byteOf r % 4) (omega arith) (λ r. omega arith) (λ r. dibit-3 (w r) m) in
-      omega (arith, s0, s1, s2, s3)
-    where
-      first : ℕ → ℕ
-      first n = partOf n 0 (byteOf 0 / 64) + partOf n 1 (byteOf 1 / 64) + partOf n 2 (byteOf 2 / 64) + partOf n 3 (byteOf 3 / 64)
-
-  pub four-symbols-law : {a b c d : ℕ} → a ≡ partsOf l 0 (byteOf 0) → b ≡ partsOf l 1 (byteOf 1) → c ≡ partsOf l 2 (byteOf 2) → d ≡ partsOf l 3 (byteOf 3)
-      → a + b + c + d ≡ fourSymbols m l w
-  four-symbols-law p q r s = (λ k. p k + q k + r k + s k) ∙ four-sum
-
--- a symbol further on
-symbol-on : (n l i : ℕ) (w : ℕ → ℕ) (x : ℕ) → x < n → symbolFrom n (l + i) w x ≡ symbolFrom (n + i) l w (i + x)
-unfolding symbolFrom bitOf
-symbol-on n l i w x h =
-    let e : l + i + x ≡ l + (i + x) = omega arith in
-    value-cong 2 8 _ _ (λ k b.
-    (λ t. bitOf (2 * n) (w (laneIn (e t) (k / 2))) (2 * x + (k + e t) % 2))
-    ∙ (let d : 2 * n - 1 - (2 * x + (k + (l + (i + x))) % 2) ≡ 2 * (n + i) - 1 - (2 * (i + x) + (k + (l + (i + x))) % 2) = omega arith in
-    ap (λ (y : ℕ). w (laneIn (l + (i + x)) (k / 2)) / 2 ^ y % 2) d))
-
--- a step that stores four symbols
-pub fill-step : (n l : ℕ) (w : ℕ → ℕ) {out₀ out : List ℕ} (i v : ℕ) → i + 4 ≤ n → v ≡ fourSymbols (n - (i + 4)) (l + i) w
-    → Filling (symbolFrom n l w) n out₀ out i
-    → Filling (symbolFrom n l w) n out₀
-    (set (set (set (set out i (v / 2 ^ 24 % 256)) (i + 1) (v / 65536 % 256)) (i + 2) (v / 256 % 256)) (i + 3) (v % 256)) (i + 4)
-fill-step n l w {out₀} {out} i v h e F =
-    let z : i + 3 + 1 ≡ i + 4 = omega arith in
-    subst (Filling (symbolFrom n l w) n out₀ _) z
-    (filling-at f (i + 3) (v % 256) (omega arith)
-    (filling-at f (i + 2) (v / 256 % 256) (omega arith)
-    (filling-step f (v / 65536 % 256)
-    (filling-step f (v / 2 ^ 24 % 256) F (omega arith) (D .first ∙ on 0 (omega arith) ∙ ap f (let y : i + 0 ≡ i = omega arith in y)))
-    (omega arith) (D .second ∙ on 1 (omega arith)))
-    (omega arith) (D .third ∙ on 2 (omega arith)))
-    (omega arith) (D .fourth ∙ on 3 (omega arith)))
+-- symbol 4 k + e of row g, the pilot's place being its first
+row-symbol : (s : List ℕ) (g k e : ℕ) → g < 96 → k < 16 → e < 4
+    → quarterAt (wordBytes 384 s) e (16 * g + k) ≡ symbolFrom 64 (63 * g + 3) (λ r. wordAt s (4 * g + r)) (4 * k + e)
+unfolding quarterAt dibitsAt
+row-symbol s g k e hg hk he =
+    let d : (16 * g + k) / 16 ≡ g = omega arith in
+    let m : (16 * g + k) % 16 ≡ k = omega arith in
+    let q : (3 * ((16 * g + k) / 16) + 3 + e) % 4 ≡ (63 * g + 3 + (4 * k + e)) % 4 = number (16 * g + k) d in
+    ap (λ (l : ℕ). mapped l (dibitsAt (wordBytes 384 s) e (64 * ((16 * g + k) / 16) + (16 * g + k) % 16))) q
+    ∙ mapped-mod (63 * g + 3 + (4 * k + e)) _
+    ∙ symbol-law 64 (4 * k + e) (λ r. wordAt s (4 * g + r)) (63 * g + 3) _ (omega arith)
+    ((λ x. dibitsAt (wordBytes 384 s) e (64 * d x + m x))
+    ∙ λ x. dibit 0 (64 * g + k) (omega arith) (omega arith) x * 64 + dibit 1 (64 * g + k + 16) (omega arith) (omega arith) x * 16
+    + dibit 2 (64 * g + k + 32) (omega arith) (omega arith) x * 4 + dibit 3 (64 * g + k + 48) (omega arith) (omega arith) x)
   where
-    f : ℕ → ℕ
-    f = symbolFrom n l w
+    number : (j : ℕ) → j / 16 ≡ g → (3 * (j / 16) + 3 + e) % 4 ≡ (63 * g + 3 + (4 * k + e)) % 4
+    number j d =
+        let f : 63 * g + 3 + (4 * k + e) ≡ 3 * (j / 16) + 3 + e + (15 * g + k) * 4 = omega arith in
+        sym (ap (λ (n : ℕ). n % 4) f ∙ add-mul-mod-self-right (3 * (j / 16) + 3 + e) (15 * g + k) 4)
 
-    D : Digits (n - (i + 4)) (l + i) w v
-    D = digits (n - (i + 4)) (l + i) w v e
-
-    on : (x : ℕ) → x < 4 → symbolFrom (n - (i + 4) + 4) (l + i) w x ≡ symbolFrom n l w (i + x)
-    on x b =
-        let m : n - (i + 4) + 4 + i ≡ n = omega arith in
-        symbol-on (n - (i + 4) + 4) l i w x (omega arith) ∙ ap (λ (k : ℕ). symbolFrom k l w (i + x)) m
-
--- ---- a group's halves
-
--- half u of a group is lent, and filled
-pub group-half : (s : List ℕ) (g u o : ℕ) {out₀ out part : List ℕ} {q : Quad} → u < 2 → o ≡ g * 8 + u → Filling (behindPilot s g) 64 out₀ out (u * 32)
-    → q ≡ quadAt s o
-    → let n = length (take (u * 32 + 32 - u * 32) (drop (u * 32) out)) in part ≡ tabulate n (symbolFrom n (g * 63 + 3) (numberOf q))
-    → Filling (behindPilot s g) 64 out₀ (take (u * 32) out ++ (part ++ drop (u * 32 + 32 - u * 32) (drop (u * 32) out))) (u * 32 + 32)
-unfolding behindPilot
-group-half s g u o {out₀} {out} {part} {q} b n F e p =
-    filling-put (behindPilot s g) (u * 32 + 32) part (λ m. symbolFrom m (g * 63 + 3) (numberOf q)) F (omega arith) (omega arith) p at
-  where
-    at : (k : ℕ) → k < u * 32 + 32 - u * 32 → symbolFrom (u * 32 + 32 - u * 32) (g * 63 + 3) (numberOf q) k ≡ behindPilot s g (u * 32 + k)
-    at k h =
-        let m : u * 32 + 32 - u * 32 ≡ 32 = omega arith in
-        let d : g * 8 + u ≡ g * 8 + (u * 32 + k) / 32 = omega arith in
-        let x : k ≡ (u * 32 + k) % 32 = omega arith in
-        let w = e ∙ ap (quadAt s) (n ∙ d) in
-        λ i. symbolFrom (m i) (g * 63 + 3) (numberOf (w i)) (x i)
-
--- and the pilot is put in
-pub group-done : (s : List ℕ) (g x : ℕ) {out₀ out : List ℕ} → Filling (behindPilot s g) 64 out₀ out 64 → set out 0 x ≡ tabulate 64 (groupSymbol x s g)
-unfolding groupSymbol
-group-done s g x {out₀} {out} F = is-tabulate 0 (set out 0 x) 64 _ (length-set out 0 x ∙ F .long) (λ i h. at i h (ℕ-discrete i 0))
-  where
-    at : (i : ℕ) → i < 64 → Dec (i ≡ 0) → getD (set out 0 x) i 0 ≡ cond (eqb i 0) x (behindPilot s g i)
-    at i h (yes e) = rw (eq-eqb i 0 e) (ap (λ (k : ℕ). getD (set out 0 x) k 0) e ∙ getD-set-same out 0 x 0 (omega (arith, F .long)))
-    at i h (no e) =
-        rw (ne-eqb i 0 e)
-        (getD-set-other out 0 i x 0 e ∙ ap (λ (l : List ℕ). getD l i 0) (filling-done (behindPilot s g) F (omega arith))
-        ∙ getD-tabulate 64 (behindPilot s g) i 0 h)
-
--- ---- a frame's groups
-
--- group g is lent, and filled
-pub group-long : (f : List ℕ) (g : ℕ) → length f ≡ 6144 → g < 96 → length (take (g * 64 + 64 - g * 64) (drop (g * 64) f)) ≡ 64
-group-long f g e b = simp (length-take, length-drop) (omega (arith, e))
-
-pub group-step : (s : List ℕ) (g x : ℕ) {out₀ out part : List ℕ} → g < 96 → x ≡ getD pilots g 0 → part ≡ tabulate 64 (groupSymbol x s g)
-    → Filling (mappedAt s) 6144 out₀ out (g * 64)
-    → Filling (mappedAt s) 6144 out₀ (take (g * 64) out ++ (part ++ drop (g * 64 + 64 - g * 64) (drop (g * 64) out))) ((g + 1) * 64)
-unfolding mappedAt
-group-step s g x {out₀} {out} {part} b e p F =
-    let z : g * 64 + 64 ≡ (g + 1) * 64 = omega arith in
-    subst (Filling (mappedAt s) 6144 out₀ _) z
-    (filling-put (mappedAt s) (g * 64 + 64) part (λ _. groupSymbol x s g) F (omega arith) (omega arith)
-    (p ∙ ap (λ (n : ℕ). tabulate n (groupSymbol x s g)) (sym (group-long out g (F .long) b))) at)
-  where
-    at : (k : ℕ) → k < g * 64 + 64 - g * 64 → groupSymbol x s g k ≡ mappedAt s (g * 64 + k)
-    at k h =
-        let d : g ≡ (g * 64 + k) / 64 = omega arith in
-        let m : k ≡ (g * 64 + k) % 64 = omega arith in
-        ap (λ (y : ℕ). groupSymbol y s g k) e ∙ λ i. groupSymbol (getD pilots (d i) 0) s (d i) (m i)
-
--- ---- the bits of an upper and of a lower number
-
-quad-number : (s : List ℕ) (o r : ℕ) → r < 4 → numberOf (quadAt s o) r ≡ getD s (o + 2 * r) 0
-unfolding quadAt
-quad-number s o zero h = ap (λ (k : ℕ). getD s k 0) (let e : o ≡ o + 2 * 0 = omega arith in e)
-quad-number s o (suc zero) h = refl
-quad-number s o (suc (suc zero)) h = refl
-quad-number s o (suc (suc (suc zero))) h = refl
-quad-number s o (suc (suc (suc (suc r)))) h = absurd (omega arith)
-
--- a bit of 64 as one of 62
-above : (v b : ℕ) → 2 ≤ b → b < 64 → bitOf 64 v b ≡ bitOf 62 v (b - 2)
-unfolding bitOf
-above v b h l = let e : 63 - b ≡ 61 - (b - 2) = omega arith in ap (λ (y : ℕ). v / 2 ^ y % 2) e
-
--- a bit of an upper or a lower number of a row as one of its word: the two bits above an upper number are no part of the word
-row-bit : (n : ℕ) (F : ℕ → ℕ) (i u b : ℕ) → i < n → F i < 2 ^ 126 → u < 2 → b < 64 → 2 ≤ 64 * u + b
-    → bitOf 64 (getD (rowOf n F) (2 * i + u) 0) b ≡ bitOf 126 (F i) (64 * u + b - 2)
-unfolding halfOf
-row-bit n F i u b h l hu hb behind = go u hu behind
-  where
-    f : ℕ → ℕ
-    f = bitOf 126 (F i)
-
-    whole : F i ≡ number 126 f
-    whole = sym (number-bits 126 (F i) l)
-
-    go : (u : ℕ) → u < 2 → 2 ≤ 64 * u + b → bitOf 64 (getD (rowOf n F) (2 * i + u) 0) b ≡ f (64 * u + b - 2)
-    go zero _ c =
-        let e : (2 * i + 0) % 2 ≡ 0 = omega arith in
-        let d : (2 * i + 0) / 2 ≡ i = omega arith in
-        let z : 64 * 0 + b - 2 ≡ b - 2 = omega arith in
-        ap (λ (v : ℕ). bitOf 64 v b)
-        (getD-tabulate (2 * n) (halfOf F) (2 * i + 0) 0 (omega arith)
-        ∙ rw (e, d) (ap (λ (v : ℕ). v / 2 ^ 64) whole ∙ value-top 2 62 64 f (λ k _. bit-lt 126 (F i) k)))
-        ∙ above (number 62 f) b (omega arith) hb ∙ bit-number 62 f (λ k _. bit-lt 126 (F i) k) (b - 2) (omega arith) ∙ ap f (sym z)
-    go (suc zero) _ _ =
-        let e : (2 * i + 1) % 2 ≡ 1 = omega arith in
-        let d : (2 * i + 1) / 2 ≡ i = omega arith in
-        let z : 62 + b ≡ 64 * 1 + b - 2 = omega arith in
-        ap (λ (v : ℕ). bitOf 64 v b)
-        (getD-tabulate (2 * n) (halfOf F) (2 * i + 1) 0 (omega arith)
-        ∙ rw (e, d) (ap (λ (v : ℕ). v % 2 ^ 64) whole ∙ value-low 2 62 64 f (λ k _. bit-lt 126 (F i) k)))
-        ∙ bit-number 64 (λ k. f (62 + k)) (λ k _. bit-lt 126 (F i) (62 + k)) b hb ∙ ap f z
-    go (suc (suc u)) c _ = absurd (omega arith)
+    dibit : (r n : ℕ) → r < 4 → n ≡ 16 * (4 * g + r) + k → dibitIn e (getD (wordBytes 384 s) n 0) ≡ wordAt s (4 * g + r) / 2 ^ (2 * (64 - (4 * k + e + 1))) % 4
+    dibit r n h o =
+        ap (dibitIn e) (ap (λ (m : ℕ). getD (wordBytes 384 s) m 0) o ∙ word-byte s (4 * g + r) k (omega arith) hk) ∙ byte-dibit (wordAt s (4 * g + r)) k e hk he
 
 -- ---- the frame of words that were shuffled
 
@@ -351,7 +235,7 @@ module _ (g j : ℕ) (h : g < 96) (b : j < 63) where
       go (yes e) = rw (eq-eqb (i % 2) 0 e) (omega arith)
       go (no e) = rw (ne-eqb (i % 2) 0 e) (omega arith)
 
--- symbol x of half u of a group, behind the pilot: its number, counted in each half from 63 g + 3 on, and that among the 504 have the same remainder
+-- symbol x of half u of a row, behind the pilot: its number, counted in each half from 63 g + 3 on, and that among the 504 have the same remainder
 pub counted-mod : (g u x : ℕ) → 1 ≤ 32 * u + x → (g * 63 + 3 + x) % 4 ≡ (g % 8 * 63 + (32 * u + x - 1)) % 4
 counted-mod g u x behind =
     let e : g * 63 + 3 + x + 8 * u * 4 ≡ g % 8 * 63 + (32 * u + x - 1) + (126 * (g / 8) + 1) * 4 = omega arith in
@@ -361,63 +245,230 @@ counted-mod g u x behind =
 counted-even : (i a b : ℕ) → a % 4 ≡ b % 4 → (i + a) % 2 ≡ (i + b) % 2
 counted-even i a b e = omega arith
 
-module _ (s : List ℕ) (g u x : ℕ) (h : g < 96) (hu : u < 2) (hx : x < 32) (behind : 1 ≤ 32 * u + x) where
-  -- its number as the halves count, and among the 63
+-- two bits above the 126 of a word
+above : (w b : ℕ) → 2 ≤ b → b < 128 → bitOf 128 w b ≡ bitOf 126 w (b - 2)
+unfolding bitOf
+above w b h l = let e : 127 - b ≡ 125 - (b - 2) = omega arith in ap (λ (y : ℕ). w / 2 ^ y % 2) e
+
+-- symbol j of row g, behind the pilot
+module _ (s : List ℕ) (g j : ℕ) (h : g < 96) (hj : j < 64) (behind : 1 ≤ j) where
+  -- its number as the row counts, and among the 504
   abbrev counted : ℕ
-  counted = g * 63 + 3 + x
+  counted = 63 * g + 3 + j
 
   abbrev symbol : ℕ
-  symbol = g % 8 * 63 + (32 * u + x - 1)
+  symbol = g % 8 * 63 + (j - 1)
+
+  same-mod : counted % 4 ≡ symbol % 4
+  same-mod =
+      let p : 63 * g + 3 + j ≡ g * 63 + 3 + j = omega arith in
+      let q : g % 8 * 63 + (32 * 0 + j - 1) ≡ g % 8 * 63 + (j - 1) = omega arith in
+      ap (λ (n : ℕ). n % 4) p ∙ counted-mod g 0 j (omega arith) ∙ ap (λ (n : ℕ). n % 4) q
 
   counted-lane : (t : ℕ) → laneIn counted t ≡ laneIn symbol t
-  counted-lane t = sym (lane-mod counted t) ∙ ap (λ (l : ℕ). laneIn l t) (counted-mod g u x behind) ∙ lane-mod symbol t
+  counted-lane t = sym (lane-mod counted t) ∙ ap (λ (l : ℕ). laneIn l t) same-mod ∙ lane-mod symbol t
 
   -- word i when it was shuffled
   abbrev placedAt : ℕ → ℕ
   placedAt i = number 126 (λ r. bitOf 126 (wordAt s i) (unplace (i % 32) r))
 
   carried : (i : ℕ) → i < 8
-      → bitOf 64 (numberOf (quadAt (rowOf 384 placedAt) (g * 8 + u)) (laneIn counted (i / 2))) (2 * x + (i + counted) % 2) ≡ carriedBit s (g / 8) symbol i
+      → bitOf 128 (wordAt (rowOf 384 placedAt) (4 * g + laneIn counted (i / 2))) (2 * j + (i + counted) % 2) ≡ carriedBit s (g / 8) symbol i
   unfolding carriedBit
   carried i c =
       let r = laneIn symbol (i / 2) in
       let v = (i + symbol) % 2 in
       let w = 4 * g + r in
-      let j = 32 * u + x - 1 in
-      let p : (i + counted) % 2 ≡ v = counted-even i counted symbol (counted-mod g u x behind) in
-      let o : g * 8 + u + 2 * r ≡ 2 * w + u = omega arith in
-      let q : 64 * u + (2 * x + v) - 2 ≡ 2 * j + v = omega arith in
+      let p : (i + counted) % 2 ≡ v = counted-even i counted symbol same-mod in
+      let q : 2 * j + v - 2 ≡ 2 * (j - 1) + v = omega arith in
       let hr : r < 4 = lane-lt symbol (i / 2) in
-      (λ k. bitOf 64 (numberOf (quadAt (rowOf 384 placedAt) (g * 8 + u)) (counted-lane (i / 2) k)) (2 * x + p k))
-      ∙ ap (λ (n : ℕ). bitOf 64 n (2 * x + v)) (quad-number (rowOf 384 placedAt) (g * 8 + u) r hr ∙ ap (λ (k : ℕ). getD (rowOf 384 placedAt) k 0) o)
-      ∙ row-bit 384 placedAt w u (2 * x + v) (omega arith) (value-lt 2 126 _ (λ q _. bit-lt 126 (wordAt s w) _)) hu (omega arith) (omega arith)
-      ∙ ap (bitOf 126 (placedAt w)) q
-      ∙ bit-number 126 _ (λ q _. bit-lt 126 (wordAt s w) _) (2 * j + v) (omega arith)
-      ∙ (λ k. bitOf 126 (wordAt s (sym (word-is g j h (omega arith) (i / 2)) k))
-      (unplace (sym (lane-is g j h (omega arith) (i / 2)) k) (sym (place-is g j h (omega arith) i) k)))
+      (λ k. bitOf 128 (wordAt (rowOf 384 placedAt) (4 * g + counted-lane (i / 2) k)) (2 * j + p k))
+      ∙ ap (λ (n : ℕ). bitOf 128 n (2 * j + v)) (row-at 384 placedAt w (omega arith) (value-lt 2 126 _ (λ q _. bit-lt 126 (wordAt s w) _)))
+      ∙ above (placedAt w) (2 * j + v) (omega arith) (omega arith) ∙ ap (bitOf 126 (placedAt w)) q
+      ∙ bit-number 126 _ (λ q _. bit-lt 126 (wordAt s w) _) (2 * (j - 1) + v) (omega arith)
+      ∙ (λ k. bitOf 126 (wordAt s (sym (word-is g (j - 1) h (omega arith) (i / 2)) k))
+      (unplace (sym (lane-is g (j - 1) h (omega arith) (i / 2)) k) (sym (place-is g (j - 1) h (omega arith) i) k)))
 
-  half-payload : symbolFrom 32 (g * 63 + 3) (numberOf (quadAt (shuffled s) (g * 8 + u))) x ≡ payload s (63 * g + (32 * u + x - 1))
+  row-payload : symbolFrom 64 (63 * g + 3) (λ r. wordAt (shuffled s) (4 * g + r)) j ≡ payload s (63 * g + (j - 1))
   unfolding symbolFrom payload shuffled
-  half-payload =
-      let d : g / 8 ≡ (63 * g + (32 * u + x - 1)) / 504 = omega arith in
-      let m : symbol ≡ (63 * g + (32 * u + x - 1)) % 504 = omega arith in
+  row-payload =
+      let d : g / 8 ≡ (63 * g + (j - 1)) / 504 = omega arith in
+      let m : symbol ≡ (63 * g + (j - 1)) % 504 = omega arith in
       value-cong 2 8 _ _ carried ∙ λ k. number 8 (carriedBit s (d k) (m k))
 
 -- symbol by symbol the frame of the row that was shuffled is the frame of the row
-mapped-is : (s : List ℕ) (t : ℕ) → t < 6144 → mappedAt (shuffled s) t ≡ symbolAt s t
-unfolding mappedAt groupSymbol behindPilot symbolAt
+mapped-is : (s : List ℕ) (t : ℕ) → t < 6144
+    → cond (eqb (t % 64) 0) (getD pilots (t / 64) 0) (quarterAt (wordBytes 384 (shuffled s)) (t % 4) (t / 4)) ≡ symbolAt s t
+unfolding symbolAt
 mapped-is s t h = go (ℕ-discrete (t % 64) 0)
   where
+    b : List ℕ
+    b = wordBytes 384 (shuffled s)
+
     go : Dec (t % 64 ≡ 0)
-        → cond (eqb (t % 64) 0) (getD pilots (t / 64) 0) (behindPilot (shuffled s) (t / 64) (t % 64))
+        → cond (eqb (t % 64) 0) (getD pilots (t / 64) 0) (quarterAt b (t % 4) (t / 4))
         ≡ cond (eqb (t % 64) 0) (getD pilots (t / 64) 0) (payload s (63 * (t / 64) + t % 64 - 1))
     go (yes e) = rw (eq-eqb (t % 64) 0 e)
     go (no e) =
-        let z : 63 * (t / 64) + (32 * (t % 64 / 32) + t % 64 % 32 - 1) ≡ 63 * (t / 64) + t % 64 - 1 = omega arith in
+        let j : t / 4 ≡ 16 * (t / 64) + t % 64 / 4 = omega arith in
+        let i : 4 * (t % 64 / 4) + t % 4 ≡ t % 64 = omega arith in
+        let z : 63 * (t / 64) + (t % 64 - 1) ≡ 63 * (t / 64) + t % 64 - 1 = omega arith in
         rw (ne-eqb (t % 64) 0 e)
-        (half-payload s (t / 64) (t % 64 / 32) (t % 64 % 32) (omega arith) (omega arith) (omega arith) (omega arith) ∙ ap (payload s) z)
+        (ap (quarterAt b (t % 4)) j ∙ row-symbol (shuffled s) (t / 64) (t % 64 / 4) (t % 4) (omega arith) (omega arith) (omega arith)
+        ∙ ap (symbolFrom 64 (63 * (t / 64) + 3) (λ r. wordAt (shuffled s) (4 * (t / 64) + r))) i
+        ∙ row-payload s (t / 64) (t % 64) (omega arith) (omega arith) (omega arith) ∙ ap (payload s) z)
 
--- the frame of the row that was shuffled
-pub frame-is : (s p : List ℕ) → p ≡ shuffled s → tabulate 6144 (mappedAt p) ≡ frameOf s
+-- the quarters of the words that were shuffled, and the pilots among them
+pub frame-is : (s b f : List ℕ) → b ≡ wordBytes 384 (shuffled s) → f ≡ tabulate 6144 (λ t. quarterAt b (t % 4) (t / 4))
+    → tabulate 6144 (λ t. cond (eqb (t % 64) 0) (getD pilots (t / 64) 0) (getD f t 0)) ≡ frameOf s
 unfolding frameOf
-frame-is s p e = ap (λ (r : List ℕ). tabulate 6144 (mappedAt r)) e ∙ tabulate-cong 6144 _ _ (mapped-is s)
+frame-is s b f e q =
+    tabulate-cong 6144 _ _ (λ t h.
+    ap (λ (x : ℕ). cond (eqb (t % 64) 0) (getD pilots (t / 64) 0) x)
+    (ap (λ (l : List ℕ). getD l t 0) q ∙ getD-tabulate 6144 _ t 0 h ∙ ap (λ (l : List ℕ). quarterAt l (t % 4) (t / 4)) e)
+    ∙ mapped-is s t h)
+
+-- ---- the loops that write the frame
+
+-- a list with a part put from place o to before place end
+abbrev pub putPart : ℕ → ℕ → List ℕ → List ℕ → List ℕ
+putPart o end out part = take o out ++ (part ++ drop (end - o) (drop o out))
+
+-- row g of a quarter is lent, and filled
+pub quarter-step : (b : List ℕ) (e g l at o end : ℕ) {out₀ out part : List ℕ} → g < 96 → o ≡ 16 * g → end ≡ o + 16 → at ≡ 64 * g → l % 4 ≡ (3 * g + 3 + e) % 4
+    → Filling (quarterAt b e) 1536 out₀ out o
+    → part ≡ tabulate (length (take (end - o) (drop o out))) (λ i. mapped l (dibitsAt b e (at + i)))
+    → Filling (quarterAt b e) 1536 out₀ (putPart o end out part) end
+unfolding quarterAt
+quarter-step b e g l at o end {out₀} {out} {part} h eo ee ea el F p =
+    filling-put (quarterAt b e) end part (λ _ i. mapped l (dibitsAt b e (at + i))) F (omega arith) (omega arith) p row
+  where
+    row : (k : ℕ) → k < end - o → mapped l (dibitsAt b e (at + k)) ≡ quarterAt b e (o + k)
+    row k c =
+        let d : g ≡ (o + k) / 16 = omega arith in
+        let m : at + k ≡ 64 * ((o + k) / 16) + (o + k) % 16 = omega arith in
+        sym (mapped-mod l _)
+        ∙ (λ x. mapped ((el ∙ ap (λ (n : ℕ). (3 * n + 3 + e) % 4) d) x) (dibitsAt b e (m x)))
+
+pub row-long : (s : List ℕ) (o end : ℕ) → length s ≡ 1536 → end ≡ o + 16 → end ≤ 1536 → length (take (end - o) (drop o s)) ≡ 16
+row-long s o end e q h = simp (length-take, length-drop) (omega arith)
+
+-- four bytes of two numbers
+pub two-bytes-step : (x y : List ℕ) {out₀ out : List ℕ} (i v w : ℕ) → i < 1536 → v ≡ getD x i 0 → w ≡ getD y i 0 → v < 65536 → w < 65536
+    → Filling (byteOfTwo x y) 6144 out₀ out (4 * i)
+    → Filling (byteOfTwo x y) 6144 out₀
+    (set (set (set (set out (4 * i) (v % 256)) (4 * i + 1) (v / 256)) (4 * i + 2) (w % 256)) (4 * i + 3) (w / 256)) (4 * (i + 1))
+unfolding byteOfTwo
+two-bytes-step x y {out₀} {out} i v w h ev ew lv lw F =
+    let z : 4 * i + 3 + 1 ≡ 4 * (i + 1) = omega arith in
+    subst (Filling f 6144 out₀ _) z
+    (filling-at f (4 * i + 3) (w / 256) (omega arith)
+    (filling-at f (4 * i + 2) (w % 256) (omega arith)
+    (filling-at f (4 * i + 1) (v / 256) refl
+    (filling-at f (4 * i) (v % 256) refl F (omega arith) (low v ∙ upper 0 (4 * i) (omega arith) (omega arith)))
+    (omega arith) (high v lv ∙ upper 1 (4 * i + 1) (omega arith) (omega arith)))
+    (omega arith) (low w ∙ lower 0 (4 * i + 2) (omega arith) (omega arith)))
+    (omega arith) (high w lw ∙ lower 1 (4 * i + 3) (omega arith) (omega arith)))
+  where
+    f : ℕ → ℕ
+    f = byteOfTwo x y
+
+    low : (n : ℕ) → n % 256 ≡ n / 256 ^ 0 % 256
+    low n = omega arith
+
+    high : (n : ℕ) → n < 65536 → n / 256 ≡ n / 256 ^ 1 % 256
+    high n l = omega arith
+
+    upper : (u t : ℕ) → u < 2 → t ≡ 4 * i + u → v / 256 ^ u % 256 ≡ f t
+    upper u t hu e =
+        let m : t % 4 < 2 = omega arith in
+        let d : i ≡ t / 4 = omega arith in
+        let n : u ≡ t % 2 = omega arith in
+        rw (lt-ltb (t % 4) 2 m) (λ k. (ev ∙ ap (λ (j : ℕ). getD x j 0) d) k / 256 ^ n k % 256)
+
+    lower : (u t : ℕ) → u < 2 → t ≡ 4 * i + 2 + u → w / 256 ^ u % 256 ≡ f t
+    lower u t hu e =
+        let m : 2 ≤ t % 4 = omega arith in
+        let d : i ≡ t / 4 = omega arith in
+        let n : u ≡ t % 2 = omega arith in
+        rw (le-ltb (t % 4) 2 m) (λ k. (ew ∙ ap (λ (j : ℕ). getD y j 0) d) k / 256 ^ n k % 256)
+
+-- a number's two bytes
+two-bytes-at : (f g : ℕ → ℕ) (s s′ x : List ℕ) (j : ℕ) → j < 1536 → s ≡ tabulate 1536 f → s′ ≡ tabulate 1536 g
+    → x ≡ tabulate 1536 (λ i. getD s i 0 + getD s′ i 0 * 256) → getD x j 0 ≡ f j + g j * 256
+two-bytes-at f g s s′ x j h e e′ q =
+    ap (λ (l : List ℕ). getD l j 0) q ∙ getD-tabulate 1536 _ j 0 h
+    ∙ λ k. (ap (λ (l : List ℕ). getD l j 0) e ∙ getD-tabulate 1536 f j 0 h) k + (ap (λ (l : List ℕ). getD l j 0) e′ ∙ getD-tabulate 1536 g j 0 h) k * 256
+
+quarter-lt : (b : List ℕ) (e j : ℕ) → quarterAt b e j < 256
+unfolding quarterAt mapped
+quarter-lt b e j = value-lt 2 8 _ (λ k _. bit-lt 8 _ _)
+
+-- four quarters, two and two in a number, are one symbol of each in turn
+pub quarters-frame : (b s₀ s₁ s₂ s₃ x y : List ℕ) → s₀ ≡ tabulate 1536 (quarterAt b 0) → s₁ ≡ tabulate 1536 (quarterAt b 1) → s₂ ≡ tabulate 1536 (quarterAt b 2)
+    → s₃ ≡ tabulate 1536 (quarterAt b 3) → x ≡ tabulate 1536 (λ i. getD s₀ i 0 + getD s₁ i 0 * 256) → y ≡ tabulate 1536 (λ i. getD s₂ i 0 + getD s₃ i 0 * 256)
+    → tabulate 6144 (byteOfTwo x y) ≡ tabulate 6144 (λ t. quarterAt b (t % 4) (t / 4))
+unfolding byteOfTwo
+quarters-frame b s₀ s₁ s₂ s₃ x y e₀ e₁ e₂ e₃ p q = tabulate-cong 6144 _ _ (λ t h. at t (t % 4) refl h)
+  where
+    low : (n v w : ℕ) → n ≡ v + w * 256 → v < 256 → n / 256 ^ 0 % 256 ≡ v
+    low n v w e l = omega arith
+
+    high : (n v w : ℕ) → n ≡ v + w * 256 → v < 256 → w < 256 → n / 256 ^ 1 % 256 ≡ w
+    high n v w e l m = omega arith
+
+    at : (t r : ℕ) → t % 4 ≡ r → t < 6144
+        → cond (ltb (t % 4) 2) (getD x (t / 4) 0) (getD y (t / 4) 0) / 256 ^ (t % 2) % 256 ≡ quarterAt b (t % 4) (t / 4)
+    at t zero r h =
+        let m : t % 2 ≡ 0 = omega arith in
+        rw (r, m) (low _ _ (quarterAt b 1 (t / 4)) (two-bytes-at _ _ s₀ s₁ x (t / 4) (omega arith) e₀ e₁ p) (quarter-lt b 0 (t / 4)))
+    at t (suc zero) r h =
+        let m : t % 2 ≡ 1 = omega arith in
+        rw (r, m) (high _ (quarterAt b 0 (t / 4)) _ (two-bytes-at _ _ s₀ s₁ x (t / 4) (omega arith) e₀ e₁ p) (quarter-lt b 0 (t / 4)) (quarter-lt b 1 (t / 4)))
+    at t (suc (suc zero)) r h =
+        let m : t % 2 ≡ 0 = omega arith in
+        rw (r, m) (low _ _ (quarterAt b 3 (t / 4)) (two-bytes-at _ _ s₂ s₃ y (t / 4) (omega arith) e₂ e₃ q) (quarter-lt b 2 (t / 4)))
+    at t (suc (suc (suc zero))) r h =
+        let m : t % 2 ≡ 1 = omega arith in
+        rw (r, m) (high _ (quarterAt b 2 (t / 4)) _ (two-bytes-at _ _ s₂ s₃ y (t / 4) (omega arith) e₂ e₃ q) (quarter-lt b 2 (t / 4)) (quarter-lt b 3 (t / 4)))
+    at t (suc (suc (suc (suc r)))) e h = absurd (omega arith)
+
+-- the frame has the first g pilots at their places; all else is what it was
+pub record Piloted (f₀ : List ℕ) (g : ℕ) (f : List ℕ) : Type 0 where
+  pub long : length f ≡ 6144
+  pub is : (t : ℕ) → getD f t 0 ≡ cond (eqb (t % 64) 0 && ltb (t / 64) g) (getD pilots (t / 64) 0) (getD f₀ t 0)
+
+module _ {f₀ : List ℕ} where
+  pub piloted-start : length f₀ ≡ 6144 → Piloted f₀ 0 f₀
+  piloted-start e = record { long = e; is = λ t. at t (ℕ-discrete (t % 64) 0) }
+    where
+      at : (t : ℕ) → Dec (t % 64 ≡ 0) → getD f₀ t 0 ≡ cond (eqb (t % 64) 0 && ltb (t / 64) 0) (getD pilots (t / 64) 0) (getD f₀ t 0)
+      at t (yes q) = rw (eq-eqb (t % 64) 0 q, le-ltb (t / 64) 0 (omega arith))
+      at t (no q) = rw (ne-eqb (t % 64) 0 q)
+
+  pub piloted-step : {f : List ℕ} {g x : ℕ} → Piloted f₀ g f → g < 96 → x ≡ getD pilots g 0 → Piloted f₀ (g + 1) (set f (64 * g) x)
+  piloted-step {f} {g} {x} F h e = record { long = length-set f (64 * g) x ∙ F .long; is = λ t. at t (ℕ-discrete t (64 * g)) }
+    where
+      at : (t : ℕ) → Dec (t ≡ 64 * g)
+          → getD (set f (64 * g) x) t 0 ≡ cond (eqb (t % 64) 0 && ltb (t / 64) (g + 1)) (getD pilots (t / 64) 0) (getD f₀ t 0)
+      at t (yes q) =
+          let m : t % 64 ≡ 0 = omega arith in
+          let d : g ≡ t / 64 = omega arith in
+          rw (eq-eqb (t % 64) 0 m, lt-ltb (t / 64) (g + 1) (omega arith))
+          (ap (λ (k : ℕ). getD (set f (64 * g) x) k 0) q ∙ getD-set-same f (64 * g) x 0 (omega (arith, F .long)) ∙ e ∙ ap (λ (k : ℕ). getD pilots k 0) d)
+      at t (no ne) = getD-set-other f (64 * g) t x 0 ne ∙ F .is t ∙ same (ℕ-discrete (t % 64) 0) (decLt (t / 64) g)
+        where
+          same : Dec (t % 64 ≡ 0) → Dec (t / 64 < g)
+              → cond (eqb (t % 64) 0 && ltb (t / 64) g) (getD pilots (t / 64) 0) (getD f₀ t 0)
+              ≡ cond (eqb (t % 64) 0 && ltb (t / 64) (g + 1)) (getD pilots (t / 64) 0) (getD f₀ t 0)
+          same (no m) _ = rw (ne-eqb (t % 64) 0 m)
+          same (yes m) (yes l) = rw (lt-ltb (t / 64) g l, lt-ltb (t / 64) (g + 1) (omega arith))
+          same (yes m) (no l) = rw (le-ltb (t / 64) g (omega arith), le-ltb (t / 64) (g + 1) (omega arith))
+
+  pub piloted-done : {f : List ℕ} {g : ℕ} → Piloted f₀ g f → 96 ≤ g
+      → f ≡ tabulate 6144 (λ t. cond (eqb (t % 64) 0) (getD pilots (t / 64) 0) (getD f₀ t 0))
+  piloted-done {f} {g} F h = is-tabulate 0 f 6144 _ (F .long) (λ t l. F .is t ∙ rw (lt-ltb (t / 64) g (omega arith)) (all (eqb (t % 64) 0) t))
+    where
+      all : (b : Bool) (t : ℕ) → cond (b && true) (getD pilots (t / 64) 0) (getD f₀ t 0) ≡ cond b (getD pilots (t / 64) 0) (getD f₀ t 0)
+      all true t = refl
+      all false t = refl

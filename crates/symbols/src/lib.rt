@@ -1,109 +1,153 @@
 // Mapping and the DSP frame: a frame's words to its symbols and back.
 // A word is two numbers: hi has bits 0 to 61 in its 62 low bits, lo has bits 62 to 125. Word 32 k + p of a frame is word k of lane p.
-// Group g of a frame's symbols, 64 g to 64 g + 63, is a pilot and 63 symbols of words 4 g to 4 g + 3. Symbol j of the 63 is number 63 g + j, of which only the
-// remainder by 4 counts: 63 g + 3 is the number in the pilot's place, where an upper number has two bits that are no part of the word.
+// Row g of a frame's symbols, 64 g to 64 g + 63, is a pilot and 63 symbols of words 4 g to 4 g + 3. Symbol j of the row is number 63 g + 3 + j, of which only
+// the remainder by 4 counts: 63 g + 3 is the number in the pilot's place, where a word has two bits more than its 126.
 ghost use mathlib.Core.Path.{_≡_};
-ghost use Prim.Native.Nat.{_<_, _≤_, _+_, _%_, _^_};
-ghost use lib.ListN.{length, drop};
+ghost use mathlib.Core.Bool.{cond};
+ghost use Prim.Native.Nat.{_<_, _≤_, _+_, _*_, _-_, _/_, _%_, _^_};
+ghost use lib.Dec.{eqb};
+ghost use lib.ListN.{getD, length, drop};
 ghost use Rattle.bits.specs.definitions.Bits.{tabulate};
 ghost use Rattle.pilots.specs.definitions.Table5.{pilots};
-ghost use Rattle.mapper_tables.specs.private.Tables.{IsParts, IsDibits, partsOf, dibitsOf};
+ghost use Rattle.mapper_tables.specs.private.Tables.{mapped, IsDibits, dibitsOf};
 ghost use Rattle.symbols.specs.definitions.Frame.{frameOf, wordsOf};
-ghost use Rattle.symbols.specs.private.Numbers.{numberOf, quadAt, symbolFrom, fourSymbols, groupSymbol, mappedAt};
+ghost use Rattle.symbols.specs.private.Numbers.{dibitIn, dibitsAt, swapped, quarterAt, byteOfTwo};
 ghost use Rattle.symbols.specs.private.Numbers.{Room, quadOf, fieldsOf, joined, quadPut, gatheredAt};
 
-// A number of each of four lanes.
-struct Quad {
-    a: u64,
-    b: u64,
-    c: u64,
-    d: u64,
+// Each dibit of a byte with its two bits swapped.
+fn swapped(x: u8) -> u8
+    ensures { λ r. ⌜ r ≡ swapped x ⌝ }
+{
+    ((x >> 1) & 0x55) | ((x & 0x55) << 1)
 }
 
-// What lane r, of four, puts into the bytes of four symbols, of which the first is number l, with the four low dibits of x.
-fn parts(t: &[u32; 4096], l: usize, r: usize, x: u64) -> u64
-    requires { ⌜ IsParts (now t) ⌝ }
-    requires { ⌜ r < 4 ⌝ }
-    ensures { λ v. ⌜ (v ≡ partsOf l r (x % 256)) × (v < 2 ^ 32) ⌝ }
+// Dibit e of a byte, put at tributary t.
+fn put_dibit(x: u8, e: u8, t: u8) -> u8
+    requires { ⌜ (e < 4) × (t < 4) ⌝ }
+    ensures { λ r. ⌜ r ≡ dibitIn e x * 4 ^ (3 - t) ⌝ }
 {
-    let k = 1024 * (l % 4) + 256 * r + ((x % 256) as usize);
-    bits::wide32(t[k])
+    let from = 6 - 2 * e;
+    let to = 6 - 2 * t;
+    ((x >> from) % 4) << to
 }
 
-// Four symbols side by side, of which the first is number l: from the four dibits of each number above its m low ones.
-fn four_symbols(t: &[u32; 4096], q: Quad, m: usize, l: usize) -> u64
-    requires { ⌜ IsParts (now t) ⌝ }
-    requires { ⌜ m ≤ 28 ⌝ }
-    ensures { λ v. ⌜ v ≡ fourSymbols m l (numberOf q) ⌝ }
+// Symbol l from dibit e of a byte of each of its four lanes.
+fn symbol(a: u8, b: u8, c: u8, d: u8, e: u8, l: u8) -> u8
+    requires { ⌜ (e < 4) × (l < 4) ⌝ }
+    ensures { λ r. ⌜ r ≡ mapped l (dibitIn e a * 64 + dibitIn e b * 16 + dibitIn e c * 4 + dibitIn e d) ⌝ }
 {
-    let k = (2 * m) as u64;
-    let a = parts(t, l, 0, q.a >> k);
-    let b = parts(t, l, 1, q.b >> k);
-    let c = parts(t, l, 2, q.c >> k);
-    let d = parts(t, l, 3, q.d >> k);
-    a + b + c + d
+    let f = 3 * (2 * l + l / 2 % 2);
+    let w = put_dibit(a, e, f % 4);
+    let x = put_dibit(b, e, (1 + f) % 4);
+    let y = put_dibit(c, e, (2 + f) % 4);
+    let z = put_dibit(d, e, (3 + f) % 4);
+    let v = w + x + y + z;
+    if l % 2 == 1 {
+        return swapped(v);
+    }
+    v
 }
 
-// Four symbols at a time as many as there is room for, of which the first is number l.
-fn fill(t: &[u32; 4096], q: Quad, l: usize, out: &mut [u8])
-    requires { ⌜ IsParts (now t) ⌝ }
-    requires { ⌜ (length (now out) ≤ 32) × ((length (now out) % 4 ≡ 0) × (l < 65536)) ⌝ }
-    ensures { λ _. ⌜ now (out .exit) ≡ tabulate (length (now (out .entry))) (symbolFrom (length (now (out .entry))) l (numberOf q)) ⌝ }
+// Every fourth symbol of a row, from symbol e on: all are symbol l, of four, and come of the row's 64 bytes from byte at on.
+fn row_quarter(b: &[u8; 6144], at: usize, e: u8, l: u8, out: &mut [u8])
+    requires { ⌜ (at + 64 ≤ 6144) × (e < 4) × (l < 4) × (length (now out) ≡ 16) ⌝ }
+    ensures { λ _. ⌜ now (out .exit) ≡ tabulate (length (now (out .entry))) (λ i. mapped l (dibitsAt (now (b .entry)) e (at + i))) ⌝ }
 {
-    let n = out.len();
     let mut i: usize = 0;
-    while i < n {
-        let v = four_symbols(t, q, n - (i + 4), l + i);
-        out[i] = (v / bits::TWO_24 % 256) as u8;
-        out[i + 1] = (v / 65536 % 256) as u8;
-        out[i + 2] = (v / 256 % 256) as u8;
-        out[i + 3] = (v % 256) as u8;
-        i += 4;
+    while i < 16 {
+        let m = at + i;
+        out[i] = symbol(b[m], b[m + 16], b[m + 32], b[m + 48], e, l);
+        i += 1;
     }
 }
 
-// Four numbers of a row, every other from place o on.
-fn quad_at(s: &[u64], o: usize) -> Quad
-    requires { ⌜ o + 6 < length (now s) ⌝ }
-    ensures { λ r. ⌜ r ≡ quadAt (now (s .entry)) o ⌝ }
+// Every fourth symbol of a frame, from symbol e on: four rows at a time, since what a row's first symbol is goes round by four. Compiled for a literal e.
+fn quarter(b: &[u8; 6144], e: u8, out: &mut [u8])
+    requires { ⌜ (e < 4) × (length (now out) ≡ 1536) ⌝ }
+    ensures { λ _. ⌜ now (out .exit) ≡ tabulate 1536 (quarterAt (now (b .entry)) e) ⌝ }
 {
-    let a = s[o];
-    let b = s[o + 2];
-    let c = s[o + 4];
-    let d = s[o + 6];
-    Quad { a, b, c, d }
+    let mut q: usize = 0;
+    while q < 24 {
+        let at = 256 * q;
+        let o = 64 * q;
+        let o1 = o + 16;
+        let o2 = o + 32;
+        let o3 = o + 48;
+        let o4 = o + 64;
+        row_quarter(b, at, e, (e + 3) % 4, &mut out[o..o1]);
+        row_quarter(b, at + 64, e, (e + 2) % 4, &mut out[o1..o2]);
+        row_quarter(b, at + 128, e, (e + 1) % 4, &mut out[o2..o3]);
+        row_quarter(b, at + 192, e, e, &mut out[o3..o4]);
+        q += 1;
+    }
 }
 
-// The 64 symbols of group g of a frame: a pilot, and 63 of four words whose bits stand at their places, 32 by their upper numbers and 32 by their lower ones.
-fn map_group(t: &[u32; 4096], pilot: u8, words: &[u64], g: usize, out: &mut [u8])
-    requires { ⌜ IsParts (now t) ⌝ }
-    requires { ⌜ (length (now words) ≡ 768) × ((g < 96) × (length (now out) ≡ 64)) ⌝ }
-    ensures { λ _. ⌜ now (out .exit) ≡ tabulate 64 (groupSymbol pilot (now (words .entry)) g) ⌝ }
+// A byte as a number of 16 bits.
+fn wide(x: u8) -> u16
+    ensures { λ r. ⌜ (r ≡ x) × (r < 256) ⌝ }
 {
-    let l = g * 63 + 3;
-    let o = g * 8;
-    let a: usize = 0;
-    let m: usize = 32;
-    let e: usize = 64;
-    let upper = quad_at(words, o);
-    fill(t, upper, l, &mut out[a..m]);
-    let lower = quad_at(words, o + 1);
-    fill(t, lower, l, &mut out[m..e]);
-    out[0] = pilot;
+    x as u16
 }
 
-// The frame of words whose bits stand at their places.
-fn map_words(t: &[u32; 4096], p: &[u8; 96], words: &[u64], frame: &mut [u8])
-    requires { ⌜ IsParts (now t) ⌝ }
+// Two rows of bytes, one byte of each in a number: bytes at a stride the compiler would move one by one.
+fn two_bytes(x: &[u8; 1536], y: &[u8; 1536], out: &mut [u16])
+    requires { ⌜ length (now out) ≡ 1536 ⌝ }
+    ensures { λ _. ⌜ now (out .exit) ≡ tabulate 1536 (λ i. getD (now (x .entry)) i 0 + getD (now (y .entry)) i 0 * 256) ⌝ }
+{
+    let mut i: usize = 0;
+    while i < 1536 {
+        out[i] = wide(x[i]) + wide(y[i]) * 256;
+        i += 1;
+    }
+}
+
+// The bytes of both, two and two in turn.
+fn write_two_bytes(x: &[u16], y: &[u16], out: &mut [u8])
+    requires { ⌜ (length (now x) ≡ 1536) × (length (now y) ≡ 1536) × (length (now out) ≡ 6144) ⌝ }
+    ensures { λ _. ⌜ now (out .exit) ≡ tabulate 6144 (byteOfTwo (now (x .entry)) (now (y .entry))) ⌝ }
+{
+    let mut i: usize = 0;
+    while i < 1536 {
+        let v = x[i];
+        let w = y[i];
+        let at = 4 * i;
+        out[at] = (v % 256) as u8;
+        out[at + 1] = (v / 256) as u8;
+        out[at + 2] = (w % 256) as u8;
+        out[at + 3] = (w / 256) as u8;
+        i += 1;
+    }
+}
+
+// The symbols of a frame from the bytes of its words; what stands in the pilots' places is no symbol.
+fn map_bytes(b: &[u8; 6144], frame: &mut [u8])
+    requires { ⌜ length (now frame) ≡ 6144 ⌝ }
+    ensures { λ _. ⌜ now (frame .exit) ≡ tabulate 6144 (λ t. quarterAt (now (b .entry)) (t % 4) (t / 4)) ⌝ }
+{
+    let mut s0 = [0u8; 1536];
+    quarter(b, 0, &mut s0);
+    let mut s1 = [0u8; 1536];
+    quarter(b, 1, &mut s1);
+    let mut s2 = [0u8; 1536];
+    quarter(b, 2, &mut s2);
+    let mut s3 = [0u8; 1536];
+    quarter(b, 3, &mut s3);
+    let mut x = [0u16; 1536];
+    two_bytes(&s0, &s1, &mut x);
+    let mut y = [0u16; 1536];
+    two_bytes(&s2, &s3, &mut y);
+    write_two_bytes(&x, &y, frame);
+}
+
+// The pilots at their places.
+fn put_pilots(p: &[u8; 96], frame: &mut [u8])
     requires { ⌜ now p ≡ pilots ⌝ }
-    requires { ⌜ (length (now words) ≡ 768) × (length (now frame) ≡ 6144) ⌝ }
-    ensures { λ _. ⌜ now (frame .exit) ≡ tabulate 6144 (mappedAt (now (words .entry))) ⌝ }
+    requires { ⌜ length (now frame) ≡ 6144 ⌝ }
+    ensures { λ _. ⌜ now (frame .exit) ≡ tabulate 6144 (λ t. cond (eqb (t % 64) 0) (getD pilots (t / 64) 0) (getD (now (frame .entry)) t 0)) ⌝ }
 {
     let mut g: usize = 0;
     while g < 96 {
-        let a = g * 64;
-        let e = g * 64 + 64;
-        map_group(t, p[g], words, g, &mut frame[a..e]);
+        frame[64 * g] = p[g];
         g += 1;
     }
 }
@@ -112,11 +156,19 @@ fn map_words(t: &[u32; 4096], p: &[u8; 96], words: &[u64], frame: &mut [u8])
 pub fn frame_from_words(words: &[u64; 768], frame: &mut [u8; 6144])
     ensures { λ _. ⌜ now (frame .exit) ≡ frameOf (now (words .entry)) ⌝ }
 {
-    let t = mapper_tables::parts();
     let p = pilots::pilots();
-    let mut placed = [0u64; 768];
+    let mut placed = [0u8; 6144];
     shuffle::shuffle_words(words, &mut placed);
-    map_words(&t, &p, &placed, frame);
+    map_bytes(&placed, frame);
+    put_pilots(&p, frame);
+}
+
+// A number of each of four lanes.
+struct Quad {
+    a: u64,
+    b: u64,
+    c: u64,
+    d: u64,
 }
 
 // The four lanes' dibits of symbol l, in fields of 16 bits.

@@ -1,8 +1,8 @@
--- Words of 126 bits, each in two numbers of 64 bits, and rows of them.
+-- Words of 126 bits, each in two numbers of 64 bits, and rows of them; and the bytes of such a row.
 -- Assumes nothing.
 use mathlib.Core.Bool.{cond}
 use mathlib.Core.List.{List}
-use Prim.Native.Nat.{ℕ, _+_, _*_, _/_, _%_, _^_}
+use Prim.Native.Nat.{ℕ, _+_, _*_, _-_, _/_, _%_, _^_}
 use lib.Dec.{eqb}
 use lib.ListN.{getD}
 use Rattle.bits.specs.definitions.Bits.{tabulate}
@@ -22,3 +22,7 @@ halfOf f j = cond (eqb (j % 2) 0) (f (j / 2) / 2 ^ 64) (f (j / 2) % 2 ^ 64)
 -- the row of the n words f 0, .., f (n - 1), in 2 n numbers
 abbrev pub rowOf : ℕ → (ℕ → ℕ) → List ℕ
 rowOf n f = tabulate (2 * n) (halfOf f)
+
+-- the bytes of the n words of a row, sixteen a word, the top byte first; a word has 126 bits, so the two bits on top are 0
+unfoldable pub wordBytes : ℕ → List ℕ → List ℕ
+wordBytes n s = tabulate (16 * n) (λ j. wordAt s (j / 16) / 2 ^ (8 * (15 - j % 16)) % 256)

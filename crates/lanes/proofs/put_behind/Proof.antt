@@ -1,4 +1,7 @@
 -- `lanes::put_behind` meets its contract: `behind`. Assumes nothing.
+use mathlib.Core.Path.{_≡_}
+use native.Mathlib.Omega.{arith}
+use lib.ListN.{length}
 use borrow.Author.Needs.{needs}
 use Rattle.lanes.proofs.Frames.{behind}
 use Rattle.lanes.proofs.put_behind.Statement.{statement}
@@ -6,8 +9,10 @@ use Rattle.lanes.proofs.put_behind.Tie as tie
 
 returns : tie.Need-returns
 returns c =
-    let start = c .before .before .before .before .before .before in
-    behind (start .args .z .now) (start .args .store .now) (start .pre .1) (start .pre .0) (c .before .before .copy .ensures)
+    let copy = c .before .before in
+    let start = copy .before .before .before .before in
+    let room : length (start .args .store .now) ≡ length (copy .copy .last .1 .0) = omega arith in
+    behind (start .args .z .now) (start .args .store .now) (start .pre .1) room (copy .copy .ensures)
 
 pub put-behind-spec : {M : Type 1} → statement M
 put-behind-spec =

@@ -2,7 +2,7 @@
 -- caller rests on a definition here.
 -- Assumes nothing.
 use mathlib.Core.Path.{_≡_}
-use mathlib.Core.Bool.{cond}
+use mathlib.Core.Bool.{Bool, cond}
 use mathlib.Core.List.{List}
 use Prim.Native.Nat.{ℕ, suc, _+_, _*_, _-_, _/_, _%_, _<_}
 use lib.Dec.{eqb, ltb}
@@ -10,7 +10,18 @@ use lib.Bits.{bitAnd, bitXor}
 use lib.ListN.{getD}
 use Rattle.bits.specs.definitions.Bits.{bitOf}
 use Rattle.lanes.specs.definitions.Permutation.{named}
-use Rattle.lanes.specs.definitions.Interleaver.{Rows, rowAt}
+use Rattle.lanes.specs.definitions.Interleaver.{Rows, sender, receiver, rowAt}
+
+-- the rows of a direction
+abbrev pub rowsOf : Bool → Rows
+rowsOf sending = cond sending sender receiver
+
+-- rows r and r + 1 lie in a lane's store one after the other, and fill it
+pub record FillStore (R : Rows) (r : ℕ) : Type 0 where
+  pub row : r < 2
+  pub first : R .start r ≡ 0
+  pub second : R .start (r + 1) ≡ R .depth r
+  pub whole : R .depth r + R .depth (r + 1) ≡ 18
 
 -- where block b of lane p begins in a frame with its store behind it: the frame has 33 blocks a lane, and the store 18
 unfoldable pub blockStart : ℕ → ℕ → ℕ
@@ -37,10 +48,6 @@ keptFrom R j = cond (ltb q 11) (3 * (11 - suc q) + r) (33 + (R .start r + (q - 1
     q : ℕ
     q = j - R .start r
 
--- of the 51 blocks after a stage, the 33 that come out and the 18 that are kept, the block that block b was
-unfoldable pub source : Rows → ℕ → ℕ
-source R b = cond (ltb b 33) (outFrom R b) (keptFrom R (b - 33))
-
 -- the bits of b where m has a bit, else those of a
 unfoldable pub mergedByte : ℕ → ℕ → ℕ → ℕ
 mergedByte a b m = bitXor a (bitAnd (bitXor a b) m)
@@ -48,11 +55,3 @@ mergedByte a b m = bitXor a (bitAnd (bitXor a b) m)
 -- the table of masks: bit k of byte c of a block lies in symbol (8 c + k) / 10, which is exchanged if the set named e has its place
 pub record IsMasks (t : List ℕ) : Type 0 where
   pub entry : (e c k : ℕ) → e < 16 → c < 5 → k < 8 → eqb (bitOf 8 (getD t (5 * e + c) 0) k) 1 ≡ named e ((8 * c + k) / 10)
-
--- a table of numbers of blocks
-pub record Below51 (t : List ℕ) : Type 0 where
-  pub below : (b : ℕ) → getD t b 0 < 51
-
--- the table of a stage
-pub record IsSource (R : Rows) (t : List ℕ) : Type 0 where
-  pub entry : (b : ℕ) → b < 51 → getD t b 0 ≡ source R b

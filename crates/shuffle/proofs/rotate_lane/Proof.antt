@@ -1,22 +1,22 @@
 -- `shuffle::rotate_lane` meets its contract: the lane's words before word k are there, rotated. Assumes nothing.
 use mathlib.Core.Path.{refl}
-use Prim.Native.Nat.{_-_}
+use Prim.Native.Nat.{_+_, _*_, _-_}
 use native.Mathlib.Omega.{arith}
 use lib.ListN.{length-set}
 use Rattle.bits.specs.definitions.Words.{wordOf, wordAt}
-use Rattle.shuffle.specs.private.Rotation.{LaneRotated}
-use Rattle.shuffle.proofs.Rotating.{lane-start, lane-step, lane-done}
+use Rattle.shuffle.specs.private.Rotation.{rotated, Holds, LaneRotated}
+use Rattle.shuffle.proofs.Rotating.{own-numbers, lane-start, lane-step, lane-done, numbers-stored}
 use Rattle.shuffle.proofs.rotate_lane.Statement.{statement}
 use Rattle.shuffle.proofs.rotate_lane.Tie as tie
 
 abbrev Inv-loop : tie.InvT-loop
-Inv-loop words p n out₀ k₀ out k = LaneRotated n p words out₀ k out
+Inv-loop words p n out₀ k₀ out k = LaneRotated Holds 2 n p words out₀ k out
 
 abbrev μ-loop : tie.MeasureT-loop
 μ-loop words p n out₀ k₀ out k = 12 - k
 
 loop-holds : tie.Need-loop-holds Inv-loop μ-loop
-loop-holds c = lane-start (c .before .before .pre .0 .1)
+loop-holds c = lane-start
 
 mul-i : tie.Need-mul-i Inv-loop μ-loop
 mul-i c = omega arith
@@ -79,7 +79,12 @@ loop-again : tie.Need-loop-again Inv-loop μ-loop
 unfolding wordAt wordOf
 loop-again c =
     let at = c .before .before .before .before in
-    lane-step (at .loop .inv) (omega arith) (omega arith) refl (c .rotate .ensures .0) (c .rotate .ensures .1)
+    let a = at .before .before .before .args in
+    let L = at .loop .inv in
+    let i = 32 * at .loop .k + a .p in
+    let e = c .rotate .ensures in
+    let w = numbers-stored (at .loop .out) i _ _ (rotated (a .n) (wordAt (a .words .now) i)) (omega (arith, L .long)) (omega arith) (e .0) (e .1) in
+    lane-step own-numbers L (omega arith) (omega arith) refl (simp length-set) (w .0) (w .1)
 
 same-length : tie.Need-same-length Inv-loop μ-loop
 same-length c = omega arith

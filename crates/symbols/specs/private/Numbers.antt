@@ -2,45 +2,33 @@
 -- Assumes nothing.
 use mathlib.Core.Bool.{cond}
 use mathlib.Core.List.{List}
-use Prim.Native.Nat.{ℕ, zero, suc, _+_, _*_, _/_, _%_, _^_, _<_}
-use lib.Dec.{eqb}
+use Prim.Native.Nat.{ℕ, _+_, _*_, _-_, _/_, _%_, _^_, _<_}
+use lib.Bits.{bitAnd, bitOr}
+use lib.Dec.{ltb}
 use lib.ListN.{getD, set, drop}
-use Rattle.bits.specs.definitions.Bits.{value, number, bitOf}
-use Rattle.pilots.specs.definitions.Table5.{pilots}
-use Rattle.mapper_tables.specs.private.Tables.{laneIn, dibitOf}
+use Rattle.bits.specs.definitions.Bits.{value}
+use Rattle.mapper_tables.specs.private.Tables.{mapped, dibitOf}
 use Rattle.symbols.specs.declared.Quad.{Quad}
 
--- of four lanes' numbers, that of lane r
-abbrev pub numberOf : Quad → ℕ → ℕ
-numberOf q zero = q .a
-numberOf q (suc zero) = q .b
-numberOf q (suc (suc zero)) = q .c
-numberOf q (suc (suc (suc r))) = q .d
+-- dibit e of a byte, the first on top
+abbrev pub dibitIn : ℕ → ℕ → ℕ
+dibitIn e x = x / 4 ^ (3 - e) % 4
 
--- the four numbers at the places o, o + 2, o + 4, o + 6 of a row
-unfoldable pub quadAt : List ℕ → ℕ → Quad
-quadAt s o = record { a = getD s o 0; b = getD s (o + 2) 0; c = getD s (o + 4) 0; d = getD s (o + 6) 0 }
+-- dibit e of each of four bytes, sixteen apart, from byte m on, side by side
+unfoldable pub dibitsAt : List ℕ → ℕ → ℕ → ℕ
+dibitsAt b e m = dibitIn e (getD b m 0) * 64 + dibitIn e (getD b (m + 16) 0) * 16 + dibitIn e (getD b (m + 32) 0) * 4 + dibitIn e (getD b (m + 48) 0)
 
--- symbol i of n, the first of which is number l, that the n low dibits of four numbers make
-unfoldable pub symbolFrom : ℕ → ℕ → (ℕ → ℕ) → ℕ → ℕ
-symbolFrom n l w i = number 8 (λ k. bitOf (2 * n) (w (laneIn (l + i) (k / 2))) (2 * i + (k + (l + i)) % 2))
+-- each dibit of a byte with its two bits swapped
+unfoldable pub swapped : ℕ → ℕ
+swapped x = bitOr (bitAnd (x / 2) 85) (bitAnd x 85 * 2 % 256)
 
--- symbols 0 to 3 of the m + 4, side by side
-unfoldable pub fourSymbols : ℕ → ℕ → (ℕ → ℕ) → ℕ
-fourSymbols m l w =
-    symbolFrom (m + 4) l w 0 * 2 ^ 24 + symbolFrom (m + 4) l w 1 * 2 ^ 16 + symbolFrom (m + 4) l w 2 * 2 ^ 8 + symbolFrom (m + 4) l w 3
+-- of every fourth symbol of a frame from symbol e on, number j, which stands in row j / 16: from the bytes of the words, 64 a row
+unfoldable pub quarterAt : List ℕ → ℕ → ℕ → ℕ
+quarterAt b e j = mapped ((3 * (j / 16) + 3 + e) % 4) (dibitsAt b e (64 * (j / 16) + j % 16))
 
--- symbol i of group g, behind the pilot: 0 to 31 come of the upper numbers of words 4 g to 4 g + 3 of a row, 32 to 63 of the lower ones
-unfoldable pub behindPilot : List ℕ → ℕ → ℕ → ℕ
-behindPilot s g i = symbolFrom 32 (g * 63 + 3) (numberOf (quadAt s (g * 8 + i / 32))) (i % 32)
-
--- symbol i of the 64 of group g, the first of which is the pilot x
-unfoldable pub groupSymbol : ℕ → List ℕ → ℕ → ℕ → ℕ
-groupSymbol x s g i = cond (eqb i 0) x (behindPilot s g i)
-
--- symbol t of their frame
-unfoldable pub mappedAt : List ℕ → ℕ → ℕ
-mappedAt s t = groupSymbol (getD pilots (t / 64) 0) s (t / 64) (t % 64)
+-- byte t of the bytes of two rows of numbers of 16 bits, the lower byte first, two and two in turn
+unfoldable pub byteOfTwo : List ℕ → List ℕ → ℕ → ℕ
+byteOfTwo x y t = cond (ltb (t % 4) 2) (getD x (t / 4) 0) (getD y (t / 4) 0) / 256 ^ (t % 2) % 256
 
 -- ---- the way back
 

@@ -1,0 +1,12 @@
+-- Words folded: each in the 48 low bits of a number that leaves the word's remainder. What stands above those bits is not looked at.
+-- Assumes nothing.
+use mathlib.Core.Path.{_≡_}
+use mathlib.Core.List.{List}
+use Prim.Native.Nat.{ℕ, _<_}
+use lib.ListN.{getD}
+use Rattle.bits.specs.definitions.Words.{wordAt}
+use Rattle.bch.specs.definitions.Code.{remainder}
+
+-- `fold_words`: the first n words of a row are folded
+pub record FoldedWords (n : ℕ) (words folds : List ℕ) : Type 0 where
+  pub fold : (i : ℕ) → i < n → remainder 48 (getD folds i 0) ≡ remainder 126 (wordAt words i)

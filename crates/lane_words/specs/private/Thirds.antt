@@ -1,0 +1,40 @@
+-- What the code's own functions say of the thirds of the lanes: a third is four words in 55 bytes, and third t of lane p is third 3 p + t of the frame. It is
+-- read as seven numbers of 64 bits. No promise to a caller rests on a definition here.
+-- Assumes nothing.
+use mathlib.Core.Path.{_≡_}
+use mathlib.Core.List.{List}
+use Prim.Native.Nat.{ℕ, _+_, _*_, _/_, _%_, _^_, _<_}
+use lib.ListN.{length, getD, set}
+use Rattle.bits.specs.definitions.Bits.{tabulate, fieldAt}
+
+-- the first six numbers of each third, which follow each other from its first bit on: number m of them all
+unfoldable pub firstAt : List ℕ → ℕ → ℕ
+firstAt a m = fieldAt a (440 * (m / 6) + 64 * (m % 6)) 64
+
+-- the last number of third g: its last 64 bits
+unfoldable pub lastAt : List ℕ → ℕ → ℕ
+lastAt a g = fieldAt a (440 * g + 376) 64
+
+-- the numbers of the lanes a
+pub record Numbers (a firsts lasts : List ℕ) : Type 0 where
+  pub firsts-are : firsts ≡ tabulate 576 (firstAt a)
+  pub lasts-are : lasts ≡ tabulate 96 (lastAt a)
+
+-- where word k of lane p stands in a row
+abbrev pub wordPlace : ℕ → ℕ → ℕ
+wordPlace k p = 32 * k + p
+
+-- the row w with another word k of lane p: the first 62 bits of x, the first 48 of y, and parity bits 0
+abbrev pub withWord : List ℕ → ℕ → ℕ → ℕ → ℕ → List ℕ
+withWord w k p x y = set (set w (2 * wordPlace k p) (x / 4)) (2 * wordPlace k p + 1) (y / 65536 * 65536)
+
+-- the row w has the first n words of the lanes a: in their order, word j is word j % 12 of lane j / 12
+pub record Placed (a : List ℕ) (n : ℕ) (w : List ℕ) : Type 0 where
+  pub long : length w ≡ 768
+  pub upper : (j : ℕ) → j < n → getD w (2 * wordPlace (j % 12) (j / 12)) 0 ≡ fieldAt a (110 * j) 110 * 2 ^ 16 / 2 ^ 64
+  pub lower : (j : ℕ) → j < n → getD w (2 * wordPlace (j % 12) (j / 12) + 1) 0 ≡ fieldAt a (110 * j) 110 * 2 ^ 16 % 2 ^ 64
+
+-- the row w has the first n words, where w₀ had the first m, of whatever lanes the numbers are
+pub record Split (firsts lasts : List ℕ) (m n : ℕ) (w₀ w : List ℕ) : Type 0 where
+  pub long : length w ≡ 768
+  pub words : {a : List ℕ} → Numbers a firsts lasts → Placed a m w₀ → Placed a n w
