@@ -11,6 +11,8 @@ use Rattle.bits.proofs.wide32.Kinds as wide32-kinds
 use Rattle.bits.proofs.wide32.Reads as wide32-reads
 use Rattle.bits.proofs.low_byte.Kinds as low-byte-kinds
 use Rattle.bits.proofs.low_byte.Reads as low-byte-reads
+use Rattle.bits.proofs.reversed.Kinds as reversed-kinds
+use Rattle.bits.proofs.reversed.Reads as reversed-reads
 use Rattle.bits.proofs.copy.Kinds as copy-kinds
 use Rattle.bits.proofs.copy.Reads as copy-reads
 
@@ -25,6 +27,9 @@ wide32-determined κs a x y s t p q = (p .0 ∙ sym (q .0), tt)
 
 pub low-byte-determined : Fixes 0 low-byte-kinds.ps low-byte-kinds.r low-byte-reads.Post (λ κs s t. Unit)
 low-byte-determined κs a x y s t p q = (p ∙ sym q, tt)
+
+pub reversed-determined : Fixes 0 reversed-kinds.ps reversed-kinds.r reversed-reads.Post (λ κs s t. Unit)
+reversed-determined κs a x y s t p q = (p ∙ sym q, tt)
 
 -- no result, and the bytes at exit
 pub copy-determined : Fixes 2 copy-kinds.ps copy-kinds.r copy-reads.Post (λ κs s t. now (s .1 .0) ≡ now (t .1 .0))

@@ -1,21 +1,23 @@
--- Two fields in one number of w bits, by arithmetic and by bit operators; and the loop that stores a number as bytes.
+-- Two fields in one number of w bits, by arithmetic and by bit operators; the loop that stores a number as bytes, a number's bytes in the other order, and the
+-- loop that loads a number from bytes.
 -- Assumes nothing.
-use mathlib.Core.Path.{_≡_, refl, sym, ap, _∙_}
+use mathlib.Core.Path.{_≡_, refl, sym, ap, ap₂, _∙_}
 use mathlib.Core.Logic.{_≢_}
 use mathlib.Core.List.{List}
 use Prim.Native.Nat.{ℕ, zero, suc, _+_, _-_, _*_, _/_, _%_, _^_, _≤_, _<_, zero-le}
-use native.Mathlib.Nat.{mod-lt, lt-of-lt-of-le, not-suc-le-zero, mul-suc, pow-suc}
+use native.Mathlib.Nat.{add-comm, mod-lt, lt-of-lt-of-le, not-suc-le-zero, mul-suc, pow-suc}
 use native.Mathlib.Decide.{ℕ-discrete}
 use native.Mathlib.Omega.{arith}
 use lib.Arith.{digits-lt}
 use lib.Pow.{pow-add, pow-pos, pow-mono, shr-lt, shl-exact}
+use lib.Dec.{lit<}
 use lib.Bits.{bitAnd, bitOr, and-mask, or-shifted}
 use lib.ListN.{length, getD, set, length-set}
 use lib.Seq.{getD-set-same, getD-set-other}
 use Rattle.bits.specs.private.Joins.{Put}
-use Rattle.bits.specs.definitions.Bits.{AllBytes}
+use Rattle.bits.specs.definitions.Bits.{value, fieldAt, reversed, AllBytes}
 use Rattle.bits.proofs.Value.{value-cong, value-digit, value-digits}
-use Rattle.bits.proofs.Fields.{bytes-field}
+use Rattle.bits.proofs.Fields.{bytes-field, byte-field, field-join, field-lt}
 
 module _ (w : ℕ) where
   -- `(a << k) | d`
@@ -114,3 +116,71 @@ pub put-byte : {n v o : ℕ} {d l : List ℕ} → Put n v o d l → (i : ℕ) �
 put-byte {n} {v} {o} {d} {l} P i h =
     sym (value-digit 256 n (λ (k : ℕ). getD l (o + k) 0) (λ k _. P .bytes .byte (o + k)) i h)
     ∙ rw byte-pow (ap (λ (x : ℕ). x / 256 ^ (n - 1 - i) % 256) (bytes-field l (P .bytes) o n ∙ P .is))
+
+-- ---- a number's bytes in the other order
+
+-- eight bytes as a number
+pub eight-bytes : (a b c d e f g h : ℕ) → a < 256 → b < 256 → c < 256 → d < 256 → e < 256 → f < 256 → g < 256 → h < 256
+    → a * 2 ^ 56 + b * 2 ^ 48 + c * 2 ^ 40 + d * 2 ^ 32 + e * 2 ^ 24 + f * 65536 + g * 256 + h < 2 ^ 64
+eight-bytes a b c d e f g h ha hb hc hd he hf hg hh = omega arith
+
+pub reversed-law : (v : ℕ) → v < 2 ^ 64
+    → v % 256 * 2 ^ 56 + v / 256 % 256 * 2 ^ 48 + v / 65536 % 256 * 2 ^ 40 + v / 2 ^ 24 % 256 * 2 ^ 32 + v / 2 ^ 32 % 256 * 2 ^ 24 + v / 2 ^ 40 % 256 * 65536
+    + v / 2 ^ 48 % 256 * 256 + v / 2 ^ 56 ≡ reversed v
+unfolding reversed value
+reversed-law v h =
+    sums (v % 256) _ (v / 256 % 256) (v / 65536 % 256) (v / 2 ^ 24 % 256) (v / 2 ^ 32 % 256) (v / 2 ^ 40 % 256) (v / 2 ^ 48 % 256) _ _
+    (omega arith) (omega arith)
+  where
+    sums : (a a′ b c d e f g h h′ : ℕ) → a ≡ a′ → h ≡ h′
+        → a * 2 ^ 56 + b * 2 ^ 48 + c * 2 ^ 40 + d * 2 ^ 32 + e * 2 ^ 24 + f * 65536 + g * 256 + h
+        ≡ (((((((0 * 256 + a′) * 256 + b) * 256 + c) * 256 + d) * 256 + e) * 256 + f) * 256 + g) * 256 + h′
+    sums a a′ b c d e f g h h′ p q = omega arith
+
+-- the byte that stands at a place from below
+pub reversed-byte : (v j : ℕ) → j < 8 → reversed v / 2 ^ (8 * j) % 256 ≡ v / 2 ^ (8 * (8 - (j + 1))) % 256
+unfolding reversed
+reversed-byte v j h =
+    let e : j ≡ 8 - 1 - (8 - (j + 1)) = omega arith in
+    rw byte-pow
+    (ap (λ (k : ℕ). value 256 8 (λ i. v / 2 ^ (8 * i) % 256) / 256 ^ k % 256) e
+    ∙ value-digit 256 8 (λ i. v / 2 ^ (8 * i) % 256) (λ i _. mod-lt (v / 2 ^ (8 * i)) (lit< tt)) (8 - (j + 1)) (omega arith))
+
+-- ---- `while j < 8 { v = v + (s[o + (7 - j)] << 8 * j); j += 1 }`
+
+-- v is the last j of the eight bytes from place o on
+pub record Loading (s : List ℕ) (o j v : ℕ) : Type 0 where
+  pub upto : j ≤ 8
+  pub bytes : AllBytes s
+  pub is : v ≡ fieldAt s (8 * (o + (8 - j))) (8 * j)
+
+module _ {s : List ℕ} {o : ℕ} where
+  pub loading-start : AllBytes s → Loading s o 0 0
+  unfolding fieldAt value
+  loading-start B = record { upto = zero-le; bytes = B; is = refl }
+
+  pub loading-step : {j v w : ℕ} → Loading s o j v → j < 8 → w ≡ getD s (o + (7 - j)) 0 → Loading s o (j + 1) (v + w * 2 ^ (8 * j) % 2 ^ 64)
+  loading-step {j} {v} {w} L h e =
+      let here = o + (7 - j) in
+      let small : w < 2 ^ 8 = omega (arith, L .bytes .byte here) in
+      let one : 8 * here + 8 ≡ 8 * (o + (8 - j)) = omega arith in
+      let from : here ≡ o + (8 - (j + 1)) = omega arith in
+      let long : 8 + 8 * j ≡ 8 * (j + 1) = omega arith in
+      record {
+        upto = omega arith;
+        bytes = L .bytes;
+        is =
+            ap (λ (x : ℕ). v + x) (shl-exact 8 (8 * j) 64 small (omega arith)) ∙ add-comm v (w * 2 ^ (8 * j))
+            ∙ ap₂ (λ (x y : ℕ). x * 2 ^ (8 * j) + y) (e ∙ sym (byte-field s (L .bytes) here)) (L .is ∙ ap (λ (i : ℕ). fieldAt s i (8 * j)) (sym one))
+            ∙ sym (field-join s (8 * here) 8 (8 * j)) ∙ ap₂ (λ (p n : ℕ). fieldAt s (8 * p) n) from long;
+      }
+
+  -- what is loaded fits
+  pub loading-lt : {j v : ℕ} → Loading s o j v → v < 2 ^ 64
+  loading-lt {j} {v} L = let h : 8 * j ≤ 64 = omega arith in rw (L .is) (lt-of-lt-of-le (field-lt s (8 * (o + (8 - j))) (8 * j)) (pow-mono h))
+
+  pub loading-done : {j v : ℕ} → Loading s o j v → 8 ≤ j → v ≡ fieldAt s (8 * o) 64
+  loading-done {j} {v} L h =
+      let from : o + (8 - j) ≡ o = omega arith in
+      let long : 8 * j ≡ 64 = omega arith in
+      L .is ∙ ap₂ (λ (p n : ℕ). fieldAt s (8 * p) n) from long

@@ -3,7 +3,7 @@ ghost use mathlib.Core.Path.{_≡_};
 ghost use mathlib.Core.Logic.{_⊎_};
 ghost use Prim.Native.Nat.{_%_, _^_, _<_, _≤_};
 ghost use lib.ListN.{length};
-ghost use Rattle.bits.specs.definitions.Bits.{copied};
+ghost use Rattle.bits.specs.definitions.Bits.{copied, reversed};
 
 // Powers of two by which numbers are cut, as the definitions write them: 2^24 and so on.
 pub const TWO_24: u64 = 1 << 24;
@@ -48,6 +48,20 @@ pub fn low_byte(x: u64) -> u8
     ensures { λ r. ⌜ r ≡ x % 256 ⌝ }
 {
     (x % 256) as u8
+}
+
+// A number's eight bytes in the other order: the compiler has one instruction for it.
+pub fn reversed(v: u64) -> u64
+    ensures { λ r. ⌜ r ≡ reversed v ⌝ }
+{
+    v % 256 * TWO_56
+        + v / 256 % 256 * TWO_48
+        + v / 65536 % 256 * TWO_40
+        + v / TWO_24 % 256 * TWO_32
+        + v / TWO_32 % 256 * TWO_24
+        + v / TWO_40 % 256 * 65536
+        + v / TWO_48 % 256 * 256
+        + v / TWO_56
 }
 
 // The first n bytes of from over those of to.

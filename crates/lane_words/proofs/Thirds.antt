@@ -21,45 +21,6 @@ use Rattle.lane_words.specs.definitions.LaneWords.{informationAt, laneWo
 use Rattle.lane_words.specs.private.Thirds.{firstAt, lastAt, Numbers, withWord, wordPlace, Placed, Split}
 use Rattle.lane_words.proofs.LaneWords.{field-middle, word-law, joined-fields}
 
--- ---- `while j < 8 { v = v + (s[o + (7 - j)] << 8 * j); j += 1 }`
-
--- v is the last j of the eight bytes from wordPlace o on
-pub record Loading (s : List ℕ) (o j v : ℕ) : Type 0 where
-  pub upto : j ≤ 8
-  pub bytes : AllBytes s
-  pub is : v ≡ fieldAt s (8 * (o + (8 - j))) (8 * j)
-
-module _ {s : List ℕ} {o : ℕ} where
-  pub loading-start : AllBytes s → Loading s o 0 0
-  unfolding fieldAt value
-  loading-start B = record { upto = zero-le; bytes = B; is = refl }
-
-  pub loading-step : {j v w : ℕ} → Loading s o j v → j < 8 → w ≡ getD s (o + (7 - j)) 0 → Loading s o (j + 1) (v + w * 2 ^ (8 * j) % 2 ^ 64)
-  loading-step {j} {v} {w} L h e =
-      let here = o + (7 - j) in
-      let small : w < 2 ^ 8 = omega (arith, L .bytes .byte here) in
-      let one : 8 * here + 8 ≡ 8 * (o + (8 - j)) = omega arith in
-      let from : here ≡ o + (8 - (j + 1)) = omega arith in
-      let long : 8 + 8 * j ≡ 8 * (j + 1) = omega arith in
-      record {
-        upto = omega arith;
-        bytes = L .bytes;
-        is =
-            ap (λ (x : ℕ). v + x) (shl-exact 8 (8 * j) 64 small (omega arith)) ∙ add-comm v (w * 2 ^ (8 * j))
-            ∙ ap₂ (λ (x y : ℕ). x * 2 ^ (8 * j) + y) (e ∙ sym (byte-field s (L .bytes) here)) (L .is ∙ ap (λ (i : ℕ). fieldAt s i (8 * j)) (sym one))
-            ∙ sym (field-join s (8 * here) 8 (8 * j)) ∙ ap₂ (λ (p n : ℕ). fieldAt s (8 * p) n) from long;
-      }
-
-  -- what is loaded fits
-  pub loading-lt : {j v : ℕ} → Loading s o j v → v < 2 ^ 64
-  loading-lt {j} {v} L = let h : 8 * j ≤ 64 = omega arith in rw (L .is) (lt-of-lt-of-le (field-lt s (8 * (o + (8 - j))) (8 * j)) (pow-mono h))
-
-  pub loading-done : {j v : ℕ} → Loading s o j v → 8 ≤ j → v ≡ fieldAt s (8 * o) 64
-  loading-done {j} {v} L h =
-      let from : o + (8 - j) ≡ o = omega arith in
-      let long : 8 * j ≡ 64 = omega arith in
-      L .is ∙ ap₂ (λ (p n : ℕ). fieldAt s (8 * p) n) from long
-
 -- ---- the numbers of the thirds
 
 -- number m of the first six of each begins at bit b, and the last of third g

@@ -23,7 +23,7 @@ use Rattle.bits.proofs.Value.{value-cong, value-lt, value-append, value-top, va
 use Rattle.bits.proofs.Joins.{cross-lt, cross-bits, byte-pow, put-byte}
 use Rattle.bits.proofs.Tabulate.{is-tabulate}
 use Rattle.bits.proofs.Words.{row-at}
-use Rattle.shuffle.specs.private.Rotation.{rotatedFrom, rotated, crossed, rotatedFirst, Holds, HoldsBytes, LaneRotated, rotatedRow, reversed}
+use Rattle.shuffle.specs.private.Rotation.{rotatedFrom, rotated, crossed, rotatedFirst, Holds, HoldsBytes, LaneRotated, rotatedRow}
 
 pow-64 : (n : ℕ) → n < 55 → 2 ^ n < 2 ^ 64
 pow-64 n h = let l : n < 64 = omega arith in pow-lt l
@@ -318,32 +318,3 @@ bytes-done {m} {s} {o} {p} F h = is-tabulate 0 o 6144 _ (F .long) at
         let e : j ≡ 16 * (j / 16) + j % 16 = omega arith in
         ap (λ (k : ℕ). getD o k 0) e ∙ F .below (j / 16) (omega arith) (omega arith) (j % 16) (omega arith)
         ∙ ap (λ (w : ℕ). w / 2 ^ (8 * (15 - j % 16)) % 256) (sym (row-at 384 word (j / 16) (omega arith) (value-lt 2 126 _ (λ r _. bit-lt 126 _ _))))
-
--- ---- a number's bytes in the other order
-
--- eight bytes as a number
-pub eight-bytes : (a b c d e f g h : ℕ) → a < 256 → b < 256 → c < 256 → d < 256 → e < 256 → f < 256 → g < 256 → h < 256
-    → a * 2 ^ 56 + b * 2 ^ 48 + c * 2 ^ 40 + d * 2 ^ 32 + e * 2 ^ 24 + f * 65536 + g * 256 + h < 2 ^ 64
-eight-bytes a b c d e f g h ha hb hc hd he hf hg hh = omega arith
-
-pub reversed-law : (v : ℕ) → v < 2 ^ 64
-    → v % 256 * 2 ^ 56 + v / 256 % 256 * 2 ^ 48 + v / 65536 % 256 * 2 ^ 40 + v / 2 ^ 24 % 256 * 2 ^ 32 + v / 2 ^ 32 % 256 * 2 ^ 24 + v / 2 ^ 40 % 256 * 65536
-    + v / 2 ^ 48 % 256 * 256 + v / 2 ^ 56 ≡ reversed v
-unfolding reversed value
-reversed-law v h =
-    sums (v % 256) _ (v / 256 % 256) (v / 65536 % 256) (v / 2 ^ 24 % 256) (v / 2 ^ 32 % 256) (v / 2 ^ 40 % 256) (v / 2 ^ 48 % 256) _ _
-    (omega arith) (omega arith)
-  where
-    sums : (a a′ b c d e f g h h′ : ℕ) → a ≡ a′ → h ≡ h′
-        → a * 2 ^ 56 + b * 2 ^ 48 + c * 2 ^ 40 + d * 2 ^ 32 + e * 2 ^ 24 + f * 65536 + g * 256 + h
-        ≡ (((((((0 * 256 + a′) * 256 + b) * 256 + c) * 256 + d) * 256 + e) * 256 + f) * 256 + g) * 256 + h′
-    sums a a′ b c d e f g h h′ p q = omega arith
-
--- the byte that stands at a place from below
-pub reversed-byte : (v j : ℕ) → j < 8 → reversed v / 2 ^ (8 * j) % 256 ≡ v / 2 ^ (8 * (8 - (j + 1))) % 256
-unfolding reversed
-reversed-byte v j h =
-    let e : j ≡ 8 - 1 - (8 - (j + 1)) = omega arith in
-    rw byte-pow
-    (ap (λ (k : ℕ). value 256 8 (λ i. v / 2 ^ (8 * i) % 256) / 256 ^ k % 256) e
-    ∙ value-digit 256 8 (λ i. v / 2 ^ (8 * i) % 256) (λ i _. mod-lt (v / 2 ^ (8 * i)) (lit< tt)) (8 - (j + 1)) (omega arith))

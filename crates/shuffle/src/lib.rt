@@ -6,7 +6,7 @@ ghost use lib.ListN.{length};
 ghost use Rattle.bits.specs.definitions.Words.{wordBytes};
 ghost use Rattle.bits.specs.private.Joins.{Put};
 ghost use Rattle.shuffle.specs.definitions.Shuffle.{shuffled, unshuffled};
-ghost use Rattle.shuffle.specs.private.Rotation.{crossed, rotatedFirst, rotated, Holds, HoldsBytes, LaneRotated, rotatedRow, reversed};
+ghost use Rattle.shuffle.specs.private.Rotation.{crossed, rotatedFirst, rotated, Holds, HoldsBytes, LaneRotated, rotatedRow};
 
 // A word in two numbers.
 struct Word {
@@ -127,26 +127,12 @@ fn rotate_words(words: &[u64], places: usize, out: &mut [u64])
     }
 }
 
-// A number's eight bytes in the other order: the compiler has one instruction for it.
-fn reversed(v: u64) -> u64
-    ensures { λ r. ⌜ r ≡ reversed v ⌝ }
-{
-    v % 256 * bits::TWO_56
-        + v / 256 % 256 * bits::TWO_48
-        + v / 65536 % 256 * bits::TWO_40
-        + v / bits::TWO_24 % 256 * bits::TWO_32
-        + v / bits::TWO_32 % 256 * bits::TWO_24
-        + v / bits::TWO_40 % 256 * 65536
-        + v / bits::TWO_48 % 256 * 256
-        + v / bits::TWO_56
-}
-
 // v as the eight bytes from byte o on: reversed first, so that the compiler makes one move of them.
 fn put(out: &mut [u8], o: usize, v: u64)
     requires { ⌜ o + 8 ≤ length (now out) ⌝ }
     ensures { λ _. ⌜ Put 8 v o (now (out .entry)) (now (out .exit)) ⌝ }
 {
-    let w = reversed(v);
+    let w = bits::reversed(v);
     let mut j: usize = 0;
     while j < 8 {
         let k = (8 * j) as u64;

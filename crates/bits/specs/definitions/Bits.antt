@@ -36,6 +36,10 @@ fieldAt s i n = number n (λ q. bitAt s (i + q))
 unfoldable pub bytes : ℕ → (ℕ → ℕ) → List ℕ
 bytes n f = tabulate n (λ b. number 8 (λ i. f (8 * b + i)))
 
+-- the eight bytes of a number in the other order
+unfoldable pub reversed : ℕ → ℕ
+reversed v = value 256 8 (λ j. v / 2 ^ (8 * j) % 256)
+
 -- every element is a byte
 pub record AllBytes (s : List ℕ) : Type 0 where
   pub byte : (m : ℕ) → getD s m 0 < 256

@@ -1,7 +1,7 @@
 -- `lane_words::load` meets its contract: the last j bytes are loaded. Assumes nothing.
 use Prim.Native.Nat.{_-_}
 use native.Mathlib.Omega.{arith}
-use Rattle.lane_words.proofs.Thirds.{Loading, loading-start, loading-step, loading-lt, loading-done}
+use Rattle.bits.proofs.Joins.{Loading, loading-start, loading-step, loading-lt, loading-done}
 use Rattle.lane_words.proofs.load.Statement.{statement}
 use Rattle.lane_words.proofs.load.Tie as tie
 

@@ -2,9 +2,8 @@
 use mathlib.Core.Path.{ap, _∙_}
 use Prim.Native.Nat.{ℕ, _*_, _-_, _/_, _%_, _^_}
 use native.Mathlib.Omega.{arith}
-use Rattle.bits.proofs.Joins.{Putting, putting-start, putting-step, putting-done}
-use Rattle.shuffle.specs.private.Rotation.{reversed}
-use Rattle.shuffle.proofs.Rotating.{reversed-byte}
+use Rattle.bits.specs.definitions.Bits.{reversed}
+use Rattle.bits.proofs.Joins.{Putting, putting-start, putting-step, putting-done, reversed-byte}
 use Rattle.shuffle.proofs.put.Statement.{statement}
 use Rattle.shuffle.proofs.put.Tie as tie
 

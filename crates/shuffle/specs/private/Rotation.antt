@@ -7,7 +7,7 @@ use mathlib.Core.List.{List}
 use Prim.Native.Nat.{ℕ, _+_, _*_, _-_, _/_, _%_, _^_, _<_}
 use lib.Dec.{ltb}
 use lib.ListN.{length, getD}
-use Rattle.bits.specs.definitions.Bits.{value, number, bitOf}
+use Rattle.bits.specs.definitions.Bits.{number, bitOf}
 use Rattle.bits.specs.definitions.Words.{wordAt, rowOf}
 
 -- the bit that comes to place r when the 110 information bits rotate by n places
@@ -43,7 +43,3 @@ pub record LaneRotated (H : List ℕ → ℕ → ℕ → Type 0) (size n p : ℕ
 -- a row of words, each of lane p rotated by m p places
 unfoldable pub rotatedRow : ℕ → List ℕ → List ℕ
 rotatedRow m s = rowOf 384 (λ i. rotated (m * (i % 32) % 110) (wordAt s i))
-
--- the eight bytes of a number in the other order
-unfoldable pub reversed : ℕ → ℕ
-reversed v = value 256 8 (λ j. v / 2 ^ (8 * j) % 256)

@@ -1,9 +1,9 @@
--- `shuffle::reversed` meets its contract: `reversed-law`. Assumes nothing.
+-- `bits::reversed` meets its contract: `reversed-law`. Assumes nothing.
 use native.Mathlib.Omega.{arith}
-use Rattle.shuffle.proofs.Rotating.{eight-bytes, reversed-law}
+use Rattle.bits.proofs.Joins.{eight-bytes, reversed-law}
 use borrow.Author.Needs.{needs}
-use Rattle.shuffle.proofs.reversed.Statement.{statement}
-use Rattle.shuffle.proofs.reversed.Tie as tie
+use Rattle.bits.proofs.reversed.Statement.{statement}
+use Rattle.bits.proofs.reversed.Tie as tie
 
 mul-result : tie.Need-mul-result
 mul-result c = search needs
