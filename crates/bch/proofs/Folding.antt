@@ -1,7 +1,7 @@
 -- Folding: bits at the top of a number go, and lower ones with the same remainder are added. By a power of x that has the remainder of a sum of lower
 -- powers many bits go at once; by the table, a byte.
 -- Assumes nothing.
-use mathlib.Core.Path.{_≡_, refl, sym, ap, ap₂, _∙_}
+use mathlib.Core.Path.{_≡_, refl, sym, ap, ap₂, _∙_, subst}
 use mathlib.Core.Bool.{Bool, true, _&&_}
 use mathlib.Core.List.{List, [], _∷_}
 use Prim.Native.Nat.{ℕ, _+_, _*_, _-_, _/_, _%_, _^_, _<_, _≤_}
@@ -11,12 +11,13 @@ use native.Mathlib.Omega.{arith}
 use lib.Dec.{T, leb, leb→le, lit<, lit≤}
 use lib.ListN.{length, getD, set}
 use lib.Pow.{pow-pos, shl-lt, shl-exact, shr-mod, shr-shr, mod-mod-pow, high, low}
-use lib.Seq.{getD-set-same, getD-set-other}
+use lib.Seq.{getD-set-same, getD-set-other, set-getD}
 use lib.Bits.{bitXor, xor-lt, xor-zero-r}
 use Rattle.bits.specs.definitions.Words.{wordOf, wordAt}
 use Rattle.bits.proofs.Xor.{xor-assoc, xor-four}
 use Rattle.bits.proofs.Sums.{sumAt, sums-linear}
 use Rattle.bits.proofs.Table.{and-left, and-right}
+use Rattle.bits.proofs.Words.{Rewriting, row-rest, row-step}
 use Rattle.bch.specs.definitions.Code.{stepOf, feedOf, remainder}
 use Rattle.bch.specs.private.Folded.{FoldedWords}
 use Rattle.bch.proofs.Remainder.{feed-lt, feed-xor, feed-append, feed-low, feed-zeros, feed-swap, feed-one, remainder-lt, remainder-xor}
@@ -165,13 +166,26 @@ fold-byte-law n v r l e h =
 
 -- ---- the words of a row
 
-pub folded-start : (words folds : List ℕ) → FoldedWords 0 words folds
-folded-start words folds = record { fold = λ k h. absurd (not-suc-le-zero h) }
+pub folded-start : (m : ℕ) (words folds : List ℕ) → FoldedWords m 0 words folds
+folded-start m words folds = record { fold = λ k h. absurd (not-suc-le-zero h) }
 
-pub folded-step : {i : ℕ} {words folds : List ℕ} (v : ℕ) → FoldedWords i words folds → i < length folds → remainder 48 v ≡ remainder 126 (wordAt words i)
-    → FoldedWords (i + 1) words (set folds i v)
-folded-step {i} {words} {folds} v F l e = record { fold = λ k h. at k (ℕ-discrete k i) h }
+pub folded-step : {m i : ℕ} {words folds : List ℕ} (v : ℕ) → FoldedWords m i words folds → i < length folds → remainder m v ≡ remainder 126 (wordAt words i)
+    → FoldedWords m (i + 1) words (set folds i v)
+folded-step {m} {i} {words} {folds} v F l e = record { fold = λ k h. at k (ℕ-discrete k i) h }
   where
-    at : (k : ℕ) → Dec (k ≡ i) → k < i + 1 → remainder 48 (getD (set folds i v) k 0) ≡ remainder 126 (wordAt words k)
+    at : (k : ℕ) → Dec (k ≡ i) → k < i + 1 → remainder m (getD (set folds i v) k 0) ≡ remainder 126 (wordAt words k)
     at k (yes q) h = rw (q, getD-set-same folds i v 0 l) e
     at k (no ne) h = rw (getD-set-other folds i k v 0 ne) (F .fold k (omega arith))
+
+-- a step that stores the upper number of word i without what stands above the word
+pub trimmed-step : {s₀ s : List ℕ} {i : ℕ} → Rewriting (wordAt s₀) 384 s₀ s i → i < 384 → getD s (2 * i + 1) 0 < 2 ^ 64
+    → Rewriting (wordAt s₀) 384 s₀ (set s (2 * i) (getD s (2 * i) 0 % 2 ^ 62)) (i + 1)
+unfolding wordOf
+trimmed-step {s₀} {s} {i} R h l =
+    let u : ℕ = getD s (2 * i) 0 % 2 ^ 62 in
+    let lo : ℕ = getD s (2 * i + 1) 0 in
+    let kept : set (set s (2 * i) u) (2 * i + 1) lo ≡ set s (2 * i) u =
+    ap (set (set s (2 * i) u) (2 * i + 1)) (sym (getD-set-other s (2 * i) (2 * i + 1) u 0 (omega arith))) ∙ set-getD (set s (2 * i) u) (2 * i + 1) 0 in
+    subst (λ (t : List ℕ). Rewriting (wordAt s₀) 384 s₀ t (i + 1)) kept
+    (row-step (wordAt s₀) R u lo h (sym (high u 64 l) ∙ ap (λ (w : ℕ). w / 2 ^ 64) (row-rest (wordAt s₀) R))
+    (sym (low u 64 l) ∙ ap (λ (w : ℕ). w % 2 ^ 64) (row-rest (wordAt s₀) R)))

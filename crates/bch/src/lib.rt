@@ -1,13 +1,15 @@
-// The word code BCH(126,110): the parity of one word, and of the 384 words of a frame in one call.
+// The word code BCH(126,110): the parity and the remainder of one word, and of the 384 words of a frame in one call.
 // A word is two numbers: hi has bits 0 to 61 in its 62 low bits, lo has bits 62 to 125. Bits 0 to 109 are the information, the rest is parity.
 ghost use mathlib.Core.Path.{_≡_};
 ghost use Prim.Native.Nat.{_+_, _*_, _%_, _^_, _<_, _≤_};
 ghost use lib.ListN.{length};
-ghost use Rattle.bits.specs.definitions.Words.{wordOf};
-ghost use Rattle.bch.specs.definitions.Code.{remainder, parityOf};
+ghost use Rattle.bits.specs.definitions.Bits.{tabulate};
+ghost use Rattle.bits.specs.definitions.Words.{wordOf, wordAt, rowOf};
+ghost use Rattle.bch.specs.definitions.Code.{feedOf, remainder, parityOf};
 ghost use Rattle.bch.specs.definitions.Word.{informationOf, codedFrame};
 ghost use Rattle.bch.specs.private.Tables.{IsByteRemainders};
 ghost use Rattle.bch.specs.private.Folded.{FoldedWords};
+ghost use Rattle.bch.specs.private.Digits.{joined, numberAt, digitsOf};
 
 mod tables;
 
@@ -86,7 +88,7 @@ pub fn parity(hi: u64, lo: u64) -> u64
 // Each word of a frame folded.
 fn fold_words(words: &[u64], out: &mut [u64])
     requires { ⌜ (length (now words) ≡ 768) × (length (now out) ≡ 384) ⌝ }
-    ensures { λ _. ⌜ FoldedWords 384 (now (words .entry)) (now (out .exit)) ⌝ }
+    ensures { λ _. ⌜ FoldedWords 48 384 (now (words .entry)) (now (out .exit)) ⌝ }
 {
     let mut i: usize = 0;
     while i < 384 {
@@ -100,7 +102,7 @@ fn fold_words(words: &[u64], out: &mut [u64])
 fn add_parity(t: &[u16; 256], folds: &[u64], words: &mut [u64])
     requires { ⌜ IsByteRemainders (now t) ⌝ }
     requires { ⌜ (length (now folds) ≡ 384) × (length (now words) ≡ 768) ⌝ }
-    requires { ⌜ FoldedWords 384 (now words) (now folds) ⌝ }
+    requires { ⌜ FoldedWords 48 384 (now words) (now folds) ⌝ }
     ensures { λ _. ⌜ now (words .exit) ≡ codedFrame (now (words .entry)) ⌝ }
 {
     let mut i: usize = 0;
@@ -123,4 +125,95 @@ pub fn encode_frame(words: &mut [u64; 768])
     let mut folds = [0u64; 384];
     fold_words(words, &mut folds);
     add_parity(&t, &folds, words);
+}
+
+// A digit of 16 bits below a remainder: the remainder of r times x^16, and of the digit d. The quotient comes first: that of x^32 by the generator is
+// x^16 + x^14 + x^12 + x^11 + x^9 + x^8 + x^6 + x^4 + x^3; then the generator's lower terms, as often as it says.
+fn fold_digit(r: u16, d: u16) -> u16
+    ensures { λ v. ⌜ v ≡ feedOf r 16 d ⌝ }
+{
+    let a = r ^ (r >> 2);
+    let b = r ^ (r >> 1);
+    let q = a ^ (a >> 10) ^ (b >> 4) ^ (b >> 7) ^ (r >> 13);
+    let t = q ^ (q << 2);
+    d ^ q ^ (t << 1) ^ (t << 5) ^ (t << 9) ^ (q << 10) ^ (q << 14)
+}
+
+// The remainder of a number of four digits, from the top: the top digit is its own remainder.
+fn fold_digits(a: u16, b: u16, c: u16, d: u16) -> u16
+    ensures { λ r. ⌜ r ≡ remainder 64 (joined a b c d) ⌝ }
+{
+    fold_digit(fold_digit(fold_digit(a, b), c), d)
+}
+
+// The remainder of a word: 0 exactly at the code words.
+pub fn word_remainder(hi: u64, lo: u64) -> u16
+    ensures { λ r. ⌜ r ≡ remainder 126 (wordOf hi lo) ⌝ }
+{
+    let v = fold_upper(hi, lo);
+    let a = (v / bits::TWO_48) as u16;
+    let b = (v / bits::TWO_32 % 65536) as u16;
+    let c = (v / 65536 % 65536) as u16;
+    let d = (v % 65536) as u16;
+    fold_digits(a, b, c, d)
+}
+
+// Each word of a frame folded into 64 bits; what stands above a word's 126 bits goes.
+fn fold_uppers(words: &mut [u64], out: &mut [u64])
+    requires { ⌜ (length (now words) ≡ 768) × (length (now out) ≡ 384) ⌝ }
+    ensures { λ _. ⌜ now (words .exit) ≡ rowOf 384 (wordAt (now (words .entry))) ⌝ }
+    ensures { λ _. ⌜ FoldedWords 64 384 (now (words .entry)) (now (out .exit)) ⌝ }
+{
+    let mut i: usize = 0;
+    while i < 384 {
+        let at = 2 * i;
+        let hi = words[at];
+        let lo = words[at + 1];
+        words[at] = hi % bits::TWO_62;
+        out[i] = fold_upper(hi, lo);
+        i += 1;
+    }
+}
+
+// Four digits of 16 bits a number, the lowest first.
+fn digits_of(numbers: &[u64], out: &mut [u16])
+    requires { ⌜ (length (now numbers) ≡ 384) × (length (now out) ≡ 1536) ⌝ }
+    ensures { λ _. ⌜ now (out .exit) ≡ digitsOf (now (numbers .entry)) ⌝ }
+{
+    let mut i: usize = 0;
+    while i < 384 {
+        let v = numbers[i];
+        let at = 4 * i;
+        out[at] = (v % 65536) as u16;
+        out[at + 1] = (v / 65536 % 65536) as u16;
+        out[at + 2] = (v / bits::TWO_32 % 65536) as u16;
+        out[at + 3] = (v / bits::TWO_48) as u16;
+        i += 1;
+    }
+}
+
+// The remainder of each four digits.
+fn digit_remainders(digits: &[u16], out: &mut [u16])
+    requires { ⌜ (length (now digits) ≡ 1536) × (length (now out) ≡ 384) ⌝ }
+    ensures { λ _. ⌜ now (out .exit) ≡ tabulate 384 (λ i. remainder 64 (numberAt (now (digits .entry)) i)) ⌝ }
+{
+    let mut i: usize = 0;
+    while i < 384 {
+        let at = 4 * i;
+        out[i] = fold_digits(digits[at + 3], digits[at + 2], digits[at + 1], digits[at]);
+        i += 1;
+    }
+}
+
+// The remainder of each word of a frame; what stands above a word's 126 bits goes. Each step goes over all words before the next, which is quicker.
+pub fn remainders(words: &mut [u64; 768], out: &mut [u16; 384])
+    ensures { λ _. ⌜
+        (now (words .exit) ≡ rowOf 384 (wordAt (now (words .entry))))
+        × (now (out .exit) ≡ tabulate 384 (λ i. remainder 126 (wordAt (now (words .entry)) i))) ⌝ }
+{
+    let mut folds = [0u64; 384];
+    fold_uppers(words, &mut folds);
+    let mut parts = [0u16; 1536];
+    digits_of(&folds, &mut parts);
+    digit_remainders(&parts, out);
 }

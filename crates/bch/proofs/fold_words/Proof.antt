@@ -10,7 +10,7 @@ use Rattle.bch.proofs.fold_words.Statement.{statement}
 use Rattle.bch.proofs.fold_words.Tie as tie
 
 abbrev Inv-loop : tie.InvT-loop
-Inv-loop words out₀ i₀ out i = (i ≤ 384) × (length out ≡ 384) × FoldedWords i words out
+Inv-loop words out₀ i₀ out i = (i ≤ 384) × (length out ≡ 384) × FoldedWords 48 i words out
 
 abbrev μ-loop : tie.MeasureT-loop
 μ-loop words out₀ i₀ out i = 384 - i
@@ -27,7 +27,7 @@ fold-words-spec =
     (tie.spec
     Inv-loop
     μ-loop
-    (λ c. (omega arith, c .before .before .pre .1, folded-start _ _))
+    (λ c. (omega arith, c .before .before .pre .1, folded-start _ _ _))
     (λ c. omega arith)
     (λ c. omega arith)
     (λ c. omega arith)
