@@ -1,13 +1,20 @@
-//! The archive beside this program, in one run: first both make the same calls, then each is timed, whole calls and stage by stage. `run` links it.
+//! The archive beside this program, in one run: first both make the same calls, then each is timed, whole calls and stage by stage; at last their programs
+//! that examine a capture. `run` links it, and gives it the folder where it finds them.
 
+use second::account::{count_flags, enter};
+use second::capture::{length, Answer, Reader, FRAME_RECORD, LENGTH_BYTES};
 use second::lanes::{deinterleave, interleave, lanes_of_words, permute, words, EXCHANGED, LANES_BYTES, STORE_BYTES};
 use second::receive::receive_with;
-use second::run::examine_verdict;
+use second::run::{examine_verdict, Run};
 use second::send::send;
 use second::symbols::{bit_place, frame, frame_words, wrong_pilots, FRAME_SYMBOLS, NO_LOCK};
 use second::word::{encode_frame, Decoder, FRAME_WORDS};
 use second::xorshift::Xorshift;
+use std::fs::File;
 use std::hint::black_box;
+use std::io::{self, BufWriter, Read, Write};
+use std::path::Path;
+use std::process::Command;
 use std::time::Instant;
 
 type Lanes = [u8; LANES_BYTES];
@@ -52,6 +59,8 @@ fn archive_receive(input: &Frame, store: &mut Store, output: &mut Lanes, flags: 
 const COMPARED: usize = 300;
 const TIMED: usize = 1000;
 const ROUNDS: usize = 15;
+const CAPTURED: usize = 100_000;
+const CAPTURE_ROUNDS: usize = 3;
 
 fn random_bytes<const LENGTH: usize>(random: &mut Xorshift) -> [u8; LENGTH] {
     let mut bytes = [0; LENGTH];
@@ -139,24 +148,48 @@ fn stage<I, O: PartialEq + Copy>(
     row(name, items, |item, store| rust(item, store, black_box(&mut a)), |item, store| archive(item, store, black_box(&mut b)));
 }
 
-/// A capture: an order for these frames, no flagged word allowed, and the frames in their turn.
-fn capture(frames: &[Frame]) -> Vec<u8> {
-    let mut bytes = vec![0, 0, 0, 14, 1, 0];
-    for number in [0, frames.len() as u32, 0] {
-        bytes.extend(number.to_be_bytes());
+/// A capture: an order for so many frames, no flagged word allowed, and these frames in their turn, again and again, their numbers rising.
+fn capture(frames: &[Frame], count: usize, out: &mut impl Write) -> io::Result<()> {
+    out.write_all(&[0, 0, 0, 14, 1, 0])?;
+    for number in [0, count as u32, 0] {
+        out.write_all(&number.to_be_bytes())?;
     }
-    for (number, frame) in frames.iter().enumerate() {
-        bytes.extend([0, 0, 0x18, 0x06, 1, 1]);
-        bytes.extend((number as u32).to_be_bytes());
-        bytes.extend(frame);
+    for (number, frame) in frames.iter().cycle().take(count).enumerate() {
+        out.write_all(&[0, 0, 0x18, 0x06, 1, 1])?;
+        out.write_all(&(number as u32).to_be_bytes())?;
+        out.write_all(frame)?;
     }
-    bytes
+    Ok(())
 }
 
-/// Whole captures, which both must say PASS of.
-fn row_examined(name: &str, frames: &[Frame]) {
-    let capture = capture(frames);
-    let (mut ours, mut theirs) = ((f64::MAX, 0f64), (f64::MAX, 0f64));
+/// The verdict as `examine_verdict` gives it, of a run that makes no lanes: no verdict needs them, and the archive's run makes none.
+fn verdict_without_lanes(decoder: &Decoder, capture: &[u8]) -> u32 {
+    let (mut run, mut reader) = (Run::new(), Reader::new(capture));
+    while take_without_lanes(decoder, &mut run, reader.next_record()) {}
+    run.verdict()
+}
+
+/// A frame of a run that goes on is entered by its flags alone; whatever else comes is the run's own to take.
+fn take_without_lanes(decoder: &Decoder, run: &mut Run, answer: Answer) -> bool {
+    if let (Answer::Frame { number, symbols }, Some(_), None) = (answer, run.order, run.stop) {
+        if wrong_pilots(symbols) < NO_LOCK {
+            let (mut words, mut flags) = (frame_words(symbols), [0; FRAME_WORDS]);
+            decoder.decode_frame(&mut words, &mut flags);
+            let (refusal, account) = enter(run.account, number, count_flags(&flags));
+            if refusal == 0 {
+                run.account = account;
+                return true;
+            }
+        }
+    }
+    run.take(answer)
+}
+
+/// Whole captures in memory, which all must say PASS of: a row for the Rust as it is, and one for the Rust without lanes.
+fn rows_examined(decoder: &Decoder, name: &str, frames: &[Frame]) {
+    let mut bytes = Vec::new();
+    capture(frames, frames.len(), &mut bytes).unwrap();
+    let mut best = [(f64::MAX, 0f64); 3];
     let timed = |best: &mut (f64, f64), verdict: &dyn Fn() -> u32| {
         let start = Instant::now();
         assert_eq!(verdict(), 1, "a capture that was measured does not pass");
@@ -164,10 +197,65 @@ fn row_examined(name: &str, frames: &[Frame]) {
         *best = (best.0.min(time), best.1.max(time));
     };
     for _ in 0..ROUNDS {
-        timed(&mut ours, &|| examine_verdict(black_box(&capture)));
-        timed(&mut theirs, &|| unsafe { lr800_examine_verdict(black_box(capture.as_ptr()), capture.len()) });
+        timed(&mut best[0], &|| examine_verdict(black_box(&bytes)));
+        timed(&mut best[1], &|| verdict_without_lanes(decoder, black_box(&bytes)));
+        timed(&mut best[2], &|| unsafe { lr800_examine_verdict(black_box(bytes.as_ptr()), bytes.len()) });
     }
-    print_row(name, ours, theirs);
+    print_row(name, best[0], best[2]);
+    print_row("  the Rust without its lanes", best[1], best[2]);
+}
+
+/// The Rust's examiner as a program, with the same reads and without lanes.
+fn examine_without_lanes() {
+    let (mut run, decoder) = (Run::new(), Decoder::new());
+    let (mut input, mut record) = (io::stdin().lock(), Vec::with_capacity(FRAME_RECORD));
+    let mut going = true;
+    while going {
+        record.clear();
+        input.by_ref().take(LENGTH_BYTES as u64).read_to_end(&mut record).unwrap();
+        if let Ok(length) = length(&record) {
+            input.by_ref().take(length as u64).read_to_end(&mut record).unwrap();
+        }
+        going = take_without_lanes(&decoder, &mut run, Reader::new(&record).next_record());
+    }
+    print!("{}", run.report());
+}
+
+/// A program of the folder run on a capture file as its standard input: its report, its seconds and the most memory it held, in kB. It is run by a launcher
+/// of its own, since a process is said to have held at least as much as the one that launched it.
+fn examined(folder: &Path, program: &[&str]) -> (String, f64, u64) {
+    let input = File::open(folder.join("capture")).unwrap();
+    let output = Command::new(folder.join("launch")).args(program).current_dir(folder).stdin(input).output().unwrap();
+    let said = String::from_utf8(output.stderr).unwrap();
+    assert!(output.status.success(), "{program:?} ended with {}: {said}", output.status);
+    let (seconds, memory) = said.trim_end().split_once(' ').expect("seconds and kB");
+    (String::from_utf8(output.stdout).unwrap(), seconds.parse().unwrap(), memory.parse().unwrap())
+}
+
+/// Each program on a capture file: once for its report, so that the file was read before any is timed, then in turn.
+fn rows_captured(folder: &Path, name: &str, frames: &[Frame], words: [usize; 3]) {
+    let mut file = BufWriter::new(File::create(folder.join("capture")).unwrap());
+    capture(frames, CAPTURED, &mut file).and_then(|()| file.flush()).expect("the capture cannot be written");
+    let bytes = file.get_ref().metadata().unwrap().len();
+    let [clean, one, two] = words.map(|count| count * CAPTURED);
+    let report = format!(
+        "asked {CAPTURED}\naccepted {CAPTURED}\nmissing 0\nclean {clean}\none {one}\ntwo {two}\nflagged 0\nverdict PASS\n"
+    );
+    let programs: [(&str, &[&str]); 3] =
+        [("Rust", &["./second"]), ("Rust without its lanes", &["./speed", "without-lanes"]), ("archive", &["./examine"])];
+    for (_, program) in programs {
+        assert_eq!(examined(folder, program).0, report, "{program:?} says another thing of a capture, {name}");
+    }
+    let mut best = [(f64::MAX, 0); 3];
+    for _ in 0..CAPTURE_ROUNDS {
+        for ((_, program), best) in programs.iter().zip(&mut best) {
+            let (_, seconds, memory) = examined(folder, program);
+            *best = (best.0.min(seconds), best.1.max(memory));
+        }
+    }
+    for ((side, _), (seconds, memory)) in programs.iter().zip(best) {
+        println!("{:36} {seconds:7.3} {:9.0} {memory:9} {:8.2}", format!("{name}, {side}"), bytes as f64 / 1e6 / seconds, seconds / best[0].0);
+    }
 }
 
 fn print_row(name: &str, ours: (f64, f64), theirs: (f64, f64)) {
@@ -255,18 +343,26 @@ fn receiving_stages(decoder: &Decoder, kind: &str, frames: &[Frame]) {
 }
 
 fn main() {
+    let word = std::env::args().nth(1).expect("the folder of the programs");
+    if word == "without-lanes" {
+        return examine_without_lanes();
+    }
+    let folder = Path::new(&word);
     let mut random = Xorshift::new(800);
     let decoder = Decoder::new();
     let inputs: Vec<Lanes> = (0..TIMED).map(|_| random_bytes(&mut random)).collect();
     let clean = frames(&mut random, &inputs, |_| 0);
     let two = frames(&mut random, &inputs, |_| 2);
+    let mixed = frames(&mut random, &inputs, |r| r.below(3) as u32);
     let any = frames(&mut random, &inputs[..COMPARED], |r| r.below(7) as u32);
 
     compare_send(&mut random, &inputs[..COMPARED]);
     compare_receive(&mut random, &decoder, &clean[..COMPARED], Some(0));
     compare_receive(&mut random, &decoder, &two[..COMPARED], Some(2));
+    compare_receive(&mut random, &decoder, &mixed[..COMPARED], None);
     compare_receive(&mut random, &decoder, &any, None);
-    println!("{COMPARED} frames sent, and received clean, with two flips in every word and with 0 to 6: the same frames, lanes, flags and stores");
+    println!("{COMPARED} frames sent, and received clean, with two flips in every word, with 0 to 2 at random and with 0 to 6 at random:");
+    println!("the same frames, lanes, flags and stores");
 
     println!("microseconds a frame: the best and the slowest of {ROUNDS} rounds of {TIMED} frames; the ratio of the best");
     println!("{:36} {:>17} {:>19} {:>8}", "", "Rust", "archive", "ratio");
@@ -280,7 +376,11 @@ fn main() {
     sending_stages(&inputs);
     let (mut lanes, mut other_lanes) = ([0; LANES_BYTES], [0; LANES_BYTES]);
     let (mut flags, mut other_flags) = ([0; FRAME_WORDS], [0; FRAME_WORDS]);
-    for (name, kind, frames) in [("received clean", "clean", &clean), ("received, two flips in every word", "two flips", &two)] {
+    for (name, kind, frames) in [
+        ("received clean", "clean", &clean),
+        ("received, two flips in every word", "two flips", &two),
+        ("received, 0 to 2 flips at random", "0 to 2 flips", &mixed),
+    ] {
         row(
             name,
             frames,
@@ -289,6 +389,13 @@ fn main() {
         );
         receiving_stages(&decoder, kind, frames);
     }
-    row_examined("examined clean", &clean);
-    row_examined("examined, two flips in every word", &two);
+    rows_examined(&decoder, "examined clean", &clean);
+    rows_examined(&decoder, "examined, two flips in every word", &two);
+    rows_examined(&decoder, "examined, 0 to 2 flips at random", &mixed);
+
+    println!("a capture file of {CAPTURED} frames as standard input of each side's program, all with the same report, PASS:");
+    println!("the best of {CAPTURE_ROUNDS} rounds, its ratio to the Rust's, and the most resident memory");
+    println!("{:36} {:>7} {:>9} {:>9} {:>8}", "", "seconds", "MB/s", "kB", "ratio");
+    rows_captured(folder, "clean", &clean, [FRAME_WORDS, 0, 0]);
+    rows_captured(folder, "two flips", &two, [0, 0, FRAME_WORDS]);
 }
