@@ -82,17 +82,7 @@ pub fn receive_words(input: &[u8], words: &mut [u64; 768], flags: &mut [u8; 384]
     0
 }
 
-// The words' lanes, deinterleaved and permuted back; the store becomes what is kept.
-fn lanes_back(words: &[u64; 768], store: &mut [u8; 2880], lanes: &mut [u8; 5280])
-    ensures { λ _. ⌜ (now (lanes .exit) ≡ deinterleavedFrame base (wordLanes (now (words .entry))) (now (store .entry)))
-        × (now (store .exit) ≡ deinterleavedStore (wordLanes (now (words .entry))) (now (store .entry))) ⌝ }
-{
-    let mut interleaved = [0u8; 5280];
-    lane_words::to_lanes(words, &mut interleaved);
-    lanes::deinterleave(EXCHANGED, &interleaved, store, lanes);
-}
-
-// The same over slices of the right lengths, and the flags copied.
+// The words' lanes, deinterleaved and permuted back, over slices of the right lengths; the store becomes what is kept, and the flags are copied.
 fn lanes_out(
     words: &[u64; 768],
     told: &[u8; 384],
@@ -105,12 +95,9 @@ fn lanes_out(
         × (now (store .exit) ≡ deinterleavedStore (wordLanes (now (words .entry))) (now (store .entry)))
         × (now (flags .exit) ≡ now (told .entry)) ⌝ }
 {
-    let mut kept = [0u8; 2880];
-    bits::copy(store, &mut kept);
-    let mut lanes = [0u8; 5280];
-    lanes_back(words, &mut kept, &mut lanes);
-    bits::copy(&kept, store);
-    bits::copy(&lanes, output);
+    let mut interleaved = [0u8; 5280];
+    lane_words::to_lanes(words, &mut interleaved);
+    lanes::deinterleave(EXCHANGED, &interleaved, store, output);
     bits::copy(told, flags);
 }
 

@@ -1,16 +1,20 @@
 -- A whole frame: the permutation and the moved blocks are what the definitions say of it, on the way out and on the way back.
 -- Assumes nothing.
 use mathlib.Core.Path.{_≡_, refl, sym, ap, _∙_, subst}
+use mathlib.Core.Bool.{Bool, true, false, _&&_}
 use mathlib.Core.List.{List, [], _++_, append-nil}
 use Prim.Native.Nat.{ℕ, _+_, _/_, _%_, _≤_, _<_}
 use native.Mathlib.Omega.{arith}
+use lib.Dec.{eqb}
 use lib.ListN.{length, take, drop, length-append, length-take, length-drop, drop-of-length-le}
 use lib.Seq.{take-all, take-at}
+use borrow.Author.Tests.{eq-eqb, ne-eqb}
 use Rattle.bits.specs.definitions.Bits.{tabulate, copied, AllBytes}
 use Rattle.bits.proofs.Fields.{length-bytes}
 use Rattle.bits.proofs.Filling.{copied-all}
-use Rattle.lanes.specs.definitions.Permutation.{Lanes, named, permuted, lanesOf, laneBytes}
+use Rattle.lanes.specs.definitions.Permutation.{Lanes, Places, named, permuted, lanesOf, laneBytes}
 use Rattle.lanes.specs.definitions.Interleaver.{sender, receiver, rowsOut, interleavedFrame, interleavedStore, deinterleavedFrame, deinterleavedStore}
+use Rattle.lanes.specs.definitions.Interleaver.{Deinterleaves}
 use Rattle.lanes.proofs.Bytewise.{outOf, keptOf, out-is, kept-is, frame-bit, permuted-lt, rows-out-lt, lanes-lt, permuted-cong, named-16}
 
 -- a store that fills what was lent of z, its 2880 bytes behind the first 5280, and was copied there stands behind those
@@ -80,3 +84,22 @@ module _ (e : ℕ) (a s r : List ℕ) {z w out next : List ℕ} (lr : length r �
           ap (λ (l : List ℕ). lanesOf l p i)
           (ey ∙ ap (λ (l : List ℕ). tabulate 5280 (outOf receiver l)) is ∙ out-is receiver a s long (subst AllBytes is W) (lanesOf a) (λ p i hp hi. refl))
           ∙ frame-bit back (rows-out-lt receiver s (lanesOf a) (lanes-lt a)) p i hp hi
+
+-- ---- the lengths of what is lent
+
+module _ (s o : List ℕ) where
+  pub wrong-store : (length s ≡ 2880 → ⊥) → false ≡ (eqb (length s) 2880 && eqb (length o) 5280)
+  wrong-store h = rw (ne-eqb (length s) 2880 h)
+
+  pub wrong-lanes : length s ≡ 2880 → (length o ≡ 5280 → ⊥) → false ≡ (eqb (length s) 2880 && eqb (length o) 5280)
+  wrong-lanes e h = rw (eq-eqb (length s) 2880 e, ne-eqb (length o) 5280 h)
+
+  pub right-lengths : length s ≡ 2880 → length o ≡ 5280 → true ≡ (eqb (length s) 2880 && eqb (length o) 5280)
+  right-lengths e f = rw (eq-eqb (length s) 2880 e, eq-eqb (length o) 5280 f)
+
+-- a call whose lengths are right deinterleaves
+pub deinterleaved : {ex : Places} {a s o : List ℕ} {r : Bool} {s′ o′ : List ℕ} → Deinterleaves ex a s o r s′ o′ → length s ≡ 2880 → length o ≡ 5280
+    → (s′ ≡ deinterleavedStore a s) × (o′ ≡ deinterleavedFrame ex a s)
+deinterleaved {ex} {a} {s} {o} D e f =
+    let t = sym (right-lengths s o e f) in
+    (rw (D .store, D .done, t), rw (D .output, D .done, t))

@@ -1,10 +1,12 @@
 -- The convolutional interleaver (01, interleaver; 000, 5.2), one frame at a time: 33 blocks of 40 bits a lane, three rows, block b in row
 -- b mod 3, so eleven blocks of each row in a frame. A store keeps each row's last blocks, newest first.
 -- Assumes nothing.
-use mathlib.Core.Bool.{cond}
+use mathlib.Core.Path.{_≡_}
+use mathlib.Core.Bool.{Bool, cond, _&&_}
 use mathlib.Core.List.{List}
 use Prim.Native.Nat.{ℕ, suc, _+_, _*_, _-_, _/_, _%_}
-use lib.Dec.{ltb}
+use lib.Dec.{eqb, ltb}
+use lib.ListN.{length}
 use Rattle.bits.specs.definitions.Bits.{bitAt, bytes}
 use Rattle.lanes.specs.definitions.Permutation.{Lanes, Places, permuted, lanesOf, laneBytes}
 
@@ -72,3 +74,9 @@ deinterleavedFrame ex a s = laneBytes (permuted ex (rowsOut receiver s (lanesOf 
 -- the store that is then kept
 unfoldable pub deinterleavedStore : List ℕ → List ℕ → List ℕ
 deinterleavedStore a s = storeNext receiver s (lanesOf a)
+
+-- a call that deinterleaves the lanes a, with the store s and the lanes o to be written: whether both are as long as they must be, and both at exit
+pub record Deinterleaves (ex : Places) (a s o : List ℕ) (r : Bool) (s′ o′ : List ℕ) : Type 0 where
+  pub done : r ≡ (eqb (length s) 2880 && eqb (length o) 5280)
+  pub store : s′ ≡ cond r (deinterleavedStore a s) s
+  pub output : o′ ≡ cond r (deinterleavedFrame ex a s) o
