@@ -1,22 +1,25 @@
 -- The remainder by digits of 16 bits, with no table: what `fold_digit` works out is linear, and right at each power of x.
 -- Assumes nothing.
 use mathlib.Core.Path.{_≡_, refl, sym, ap, ap₂, _∙_, subst}
+use mathlib.Core.Logic.{_≢_}
 use mathlib.Core.Bool.{Bool}
 use mathlib.Core.List.{List}
-use Prim.Native.Nat.{ℕ, _+_, _*_, _/_, _%_, _^_, _<_, zero-le}
-use native.Mathlib.Nat.{add-zero, div-one}
+use Prim.Native.Nat.{ℕ, _+_, _*_, _/_, _%_, _^_, _<_, _≤_, zero-le}
+use native.Mathlib.Nat.{add-zero, div-one, not-suc-le-zero}
+use native.Mathlib.Decide.{ℕ-discrete}
 use native.Mathlib.Omega.{arith}
 use lib.Arith.{digits-lt}
 use lib.Bits.{bitXor, xor-shr, xor-mod, xor-block}
 use lib.Dec.{T, eqb, eqb→eq, lit<}
-use lib.ListN.{getD, set}
+use lib.ListN.{length, getD, set, length-set}
+use lib.Seq.{getD-set-same, getD-set-other}
 use lib.Pow.{pow-pos, shr-shr, mod-pow-add, high, low}
 use Rattle.bits.specs.definitions.Bits.{tabulate}
 use Rattle.bits.specs.definitions.Words.{wordAt}
 use Rattle.bits.proofs.Filling.{Filling, filling-at}
 use Rattle.bits.proofs.Sums.{sums-linear}
 use Rattle.bits.proofs.Table.{each, range-rule}
-use Rattle.bits.proofs.Tabulate.{getD-tabulate, tabulate-cong}
+use Rattle.bits.proofs.Tabulate.{getD-tabulate, tabulate-cong, is-tabulate}
 use Rattle.bits.proofs.Xor.{xor-four}
 use Rattle.bch.specs.definitions.Code.{stepOf, feedOf, remainder}
 use Rattle.bch.specs.private.Folded.{FoldedWords}
@@ -181,3 +184,50 @@ pub remainders-law : (words : List ℕ) {folds digits out : List ℕ} → Folded
 remainders-law words {folds} {digits} F e q =
     q ∙ tabulate-cong 384 (λ i. remainder 64 (numberAt digits i)) (λ i. remainder 126 (wordAt words i))
     (λ i h. ap (λ (d : List ℕ). remainder 64 (numberAt d i)) e ∙ digits-remainder folds i h ∙ F .fold i h)
+
+-- ---- a row filled from the front of each quarter
+
+-- the first i of each quarter of a row of 384 stand
+pub record Quarters (f : ℕ → ℕ) (out : List ℕ) (i : ℕ) : Type 0 where
+  pub long : length out ≡ 384
+  pub stands : (k : ℕ) → k < 384 → k % 96 < i → getD out k 0 ≡ f k
+
+module _ (f : ℕ → ℕ) {out : List ℕ} where
+  pub quarters-start : length out ≡ 384 → Quarters f out 0
+  quarters-start e = record { long = e; stands = λ k _ l. absurd (not-suc-le-zero l) }
+
+  pub quarters-step : {i a b c d : ℕ} → Quarters f out i → i < 96 → a ≡ f i → b ≡ f (96 + i) → c ≡ f (192 + i) → d ≡ f (288 + i)
+      → Quarters f (set (set (set (set out i a) (96 + i) b) (192 + i) c) (288 + i) d) (i + 1)
+  quarters-step {i} {a} {b} {c} {d} Q h ea eb ec ed = record { long = long₄; stands = λ k l m. at₄ k (ℕ-discrete k (288 + i)) l m }
+    where
+      long₁ : length (set out i a) ≡ 384
+      long₁ = length-set out i a ∙ Q .long
+
+      long₂ : length (set (set out i a) (96 + i) b) ≡ 384
+      long₂ = length-set (set out i a) (96 + i) b ∙ long₁
+
+      long₃ : length (set (set (set out i a) (96 + i) b) (192 + i) c) ≡ 384
+      long₃ = length-set (set (set out i a) (96 + i) b) (192 + i) c ∙ long₂
+
+      long₄ : length (set (set (set (set out i a) (96 + i) b) (192 + i) c) (288 + i) d) ≡ 384
+      long₄ = length-set (set (set (set out i a) (96 + i) b) (192 + i) c) (288 + i) d ∙ long₃
+
+      -- what is stored last stands, and else what stood before
+      stored : (l : List ℕ) (p v k : ℕ) → length l ≡ 384 → p < 384 → v ≡ f p → Dec (k ≡ p) → (k ≢ p → getD l k 0 ≡ f k) → getD (set l p v) k 0 ≡ f k
+      stored l p v k e q ev (yes r) old = rw r (getD-set-same l p v 0 (omega arith) ∙ ev)
+      stored l p v k e q ev (no r) old = getD-set-other l p k v 0 r ∙ old r
+
+      at₁ : (k : ℕ) → k < 384 → k % 96 < i + 1 → k ≢ 96 + i → k ≢ 192 + i → k ≢ 288 + i → getD (set out i a) k 0 ≡ f k
+      at₁ k l m x y z = stored out i a k (Q .long) (omega arith) ea (ℕ-discrete k i) (λ n. Q .stands k l (omega arith))
+
+      at₂ : (k : ℕ) → k < 384 → k % 96 < i + 1 → k ≢ 192 + i → k ≢ 288 + i → getD (set (set out i a) (96 + i) b) k 0 ≡ f k
+      at₂ k l m y z = stored (set out i a) (96 + i) b k long₁ (omega arith) eb (ℕ-discrete k (96 + i)) (λ x. at₁ k l m x y z)
+
+      at₃ : (k : ℕ) → k < 384 → k % 96 < i + 1 → k ≢ 288 + i → getD (set (set (set out i a) (96 + i) b) (192 + i) c) k 0 ≡ f k
+      at₃ k l m z = stored (set (set out i a) (96 + i) b) (192 + i) c k long₂ (omega arith) ec (ℕ-discrete k (192 + i)) (λ y. at₂ k l m y z)
+
+      at₄ : (k : ℕ) → Dec (k ≡ 288 + i) → k < 384 → k % 96 < i + 1 → getD (set (set (set (set out i a) (96 + i) b) (192 + i) c) (288 + i) d) k 0 ≡ f k
+      at₄ k w l m = stored (set (set (set out i a) (96 + i) b) (192 + i) c) (288 + i) d k long₃ (omega arith) ed w (λ z. at₃ k l m z)
+
+  pub quarters-done : {i : ℕ} → Quarters f out i → 96 ≤ i → out ≡ tabulate 384 f
+  quarters-done Q h = is-tabulate 0 out 384 f (Q .long) (λ k l. Q .stands k l (omega arith))

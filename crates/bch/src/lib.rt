@@ -192,15 +192,26 @@ fn digits_of(numbers: &[u64], out: &mut [u16])
     }
 }
 
-// The remainder of each four digits.
+// The remainder of number k of a row of digits.
+fn remainder_at(digits: &[u16], k: usize) -> u16
+    requires { ⌜ (length (now digits) ≡ 1536) × (k < 384) ⌝ }
+    ensures { λ r. ⌜ r ≡ remainder 64 (numberAt (now (digits .entry)) k) ⌝ }
+{
+    let at = 4 * k;
+    fold_digits(digits[at + 3], digits[at + 2], digits[at + 1], digits[at])
+}
+
+// The remainder of each number, one of each quarter of the row at a time: none of the four waits for another.
 fn digit_remainders(digits: &[u16], out: &mut [u16])
     requires { ⌜ (length (now digits) ≡ 1536) × (length (now out) ≡ 384) ⌝ }
     ensures { λ _. ⌜ now (out .exit) ≡ tabulate 384 (λ i. remainder 64 (numberAt (now (digits .entry)) i)) ⌝ }
 {
     let mut i: usize = 0;
-    while i < 384 {
-        let at = 4 * i;
-        out[i] = fold_digits(digits[at + 3], digits[at + 2], digits[at + 1], digits[at]);
+    while i < 96 {
+        out[i] = remainder_at(digits, i);
+        out[96 + i] = remainder_at(digits, 96 + i);
+        out[192 + i] = remainder_at(digits, 192 + i);
+        out[288 + i] = remainder_at(digits, 288 + i);
         i += 1;
     }
 }

@@ -1,10 +1,11 @@
--- `bch::digit_remainders` meets its contract: the remainders before place i stand. Assumes nothing.
+-- `bch::digit_remainders` meets its contract: the remainders before place i of each quarter stand. Assumes nothing.
 use mathlib.Core.List.{List}
 use Prim.Native.Nat.{ℕ, _-_}
 use native.Mathlib.Omega.{arith}
-use Rattle.bits.proofs.Filling.{Filling, filling-start, filling-step, filling-done}
+use lib.ListN.{length-set}
 use Rattle.bch.specs.definitions.Code.{remainder}
 use Rattle.bch.specs.private.Digits.{numberAt}
+use Rattle.bch.proofs.Digits.{Quarters, quarters-start, quarters-step, quarters-done}
 use Rattle.bch.proofs.digit_remainders.Statement.{statement}
 use Rattle.bch.proofs.digit_remainders.Tie as tie
 
@@ -12,15 +13,18 @@ abbrev left : List ℕ → ℕ → ℕ
 left digits i = remainder 64 (numberAt digits i)
 
 abbrev Inv-loop : tie.InvT-loop
-Inv-loop digits out₀ i₀ out i = Filling (left digits) 384 out₀ out i
+Inv-loop digits out₀ i₀ out i = Quarters (left digits) out i
 
 abbrev μ-loop : tie.MeasureT-loop
-μ-loop digits out₀ i₀ out i = 384 - i
+μ-loop digits out₀ i₀ out i = 96 - i
 
 loop-again : tie.Need-loop-again Inv-loop μ-loop
 loop-again c =
-    let at = c .before .before .before .before .before .before .loop in
-    filling-step _ _ (at .inv) (omega arith) (c .fold-digits .ensures)
+    let three = c .before in
+    let two = three .before in
+    let one = two .before in
+    let at = one .before .before .loop in
+    quarters-step _ (at .inv) (omega arith) (one .remainder-at .ensures) (two .remainder-at2 .ensures) (three .remainder-at3 .ensures) (c .remainder-at4 .ensures)
 
 pub digit-remainders-spec : {M : Type 1} → statement M
 digit-remainders-spec =
@@ -28,24 +32,27 @@ digit-remainders-spec =
     (tie.spec
     Inv-loop
     μ-loop
-    (λ c. filling-start _ (c .before .before .pre .1))
+    (λ c. quarters-start _ (c .before .before .pre .1))
+    (λ c κs. omega arith)
     (λ c. omega arith)
     (λ c. omega arith)
     (λ c. omega arith)
+    (λ c κs. omega arith)
     (λ c. omega arith)
     (λ c. omega arith)
+    (λ c. simp length-set (omega arith))
+    (λ c. omega arith)
+    (λ c κs. omega arith)
     (λ c. omega arith)
     (λ c. omega arith)
+    (λ c. simp length-set (omega arith))
+    (λ c. omega arith)
+    (λ c κs. omega arith)
     (λ c. omega arith)
     (λ c. omega arith)
-    (λ c. omega arith)
-    (λ c. omega arith)
-    (λ c. omega arith)
-    (λ c κs. tt)
-    (λ c. omega arith)
-    (λ c. omega arith)
+    (λ c. simp length-set (omega arith))
     (λ c. omega arith)
     (λ c. omega arith)
     loop-again
     (λ c. omega arith)
-    (λ c. filling-done _ (c .before .loop .inv) (omega arith)))
+    (λ c. quarters-done _ (c .before .loop .inv) (omega arith)))
