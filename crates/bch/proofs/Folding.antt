@@ -5,21 +5,22 @@ use mathlib.Core.Path.{_≡_, refl, sym, ap, ap₂, _∙_, subst}
 use mathlib.Core.Bool.{Bool, true, _&&_}
 use mathlib.Core.List.{List, [], _∷_}
 use Prim.Native.Nat.{ℕ, _+_, _*_, _-_, _/_, _%_, _^_, _<_, _≤_}
-use native.Mathlib.Nat.{mod-lt, mul-one, not-suc-le-zero}
+use native.Mathlib.Nat.{le-trans, lt-of-le-of-lt, mod-lt, mod-eq-of-lt, mul-one, not-suc-le-zero}
 use native.Mathlib.Decide.{ℕ-discrete}
 use native.Mathlib.Omega.{arith}
 use lib.Dec.{T, leb, leb→le, lit<, lit≤}
 use lib.ListN.{length, getD, set}
 use lib.Pow.{pow-pos, shl-lt, shl-exact, shr-mod, shr-shr, mod-mod-pow, high, low}
 use lib.Seq.{getD-set-same, getD-set-other, set-getD}
-use lib.Bits.{bitXor, xor-lt, xor-zero-r}
-use Rattle.bits.specs.definitions.Words.{wordOf, wordAt}
+use lib.Bits.{bitAnd, bitOr, bitXor, xor-lt, xor-zero-r, or-add-and, and-le-l, and-comm}
+use Rattle.bits.specs.definitions.Words.{wordOf, wordAt, halfOf, rowOf}
 use Rattle.bits.proofs.Xor.{xor-assoc, xor-four}
 use Rattle.bits.proofs.Sums.{sumAt, sums-linear}
 use Rattle.bits.proofs.Table.{and-left, and-right}
+use Rattle.bits.proofs.Tabulate.{is-tabulate}
 use Rattle.bits.proofs.Words.{Rewriting, row-rest, row-step}
 use Rattle.bch.specs.definitions.Code.{stepOf, feedOf, remainder}
-use Rattle.bch.specs.private.Folded.{FoldedWords}
+use Rattle.bch.specs.private.Folded.{FoldedWords, UppersWithin}
 use Rattle.bch.proofs.Remainder.{feed-lt, feed-xor, feed-append, feed-low, feed-zeros, feed-swap, feed-one, remainder-lt, remainder-xor}
 use Rattle.bch.proofs.Remainder.{remainder-zero, remainder-own, remainder-byte, remainder-lead, remainder-cut, remainder-above}
 
@@ -189,3 +190,44 @@ trimmed-step {s₀} {s} {i} R h l =
     subst (λ (t : List ℕ). Rewriting (wordAt s₀) 384 s₀ t (i + 1)) kept
     (row-step (wordAt s₀) R u lo h (sym (high u 64 l) ∙ ap (λ (w : ℕ). w / 2 ^ 64) (row-rest (wordAt s₀) R))
     (sym (low u 64 l) ∙ ap (λ (w : ℕ). w % 2 ^ 64) (row-rest (wordAt s₀) R)))
+
+-- ---- all upper numbers in one
+
+or-within : (a b : ℕ) → (a ≤ bitOr a b) × (b ≤ bitOr a b)
+or-within a b =
+    let e : bitOr a b + bitAnd a b ≡ a + b = or-add-and a b in
+    let l : bitAnd a b ≤ a = and-le-l a b in
+    let r : bitAnd a b ≤ b = rw (and-comm a b) (and-le-l b a) in
+    (omega arith, omega arith)
+
+pub within-start : (words : List ℕ) (top : ℕ) → ((k : ℕ) → getD words k 0 < 2 ^ 64) → UppersWithin 0 words top
+within-start words top l = record { number = l; within = λ k h. absurd (not-suc-le-zero h) }
+
+pub within-step : {i top : ℕ} {words : List ℕ} → UppersWithin i words top → UppersWithin (i + 1) words (bitOr top (getD words (2 * i) 0))
+within-step {i} {top} {words} U = record { number = U .number; within = λ k h. at k (ℕ-discrete k i) h }
+  where
+    both : (top ≤ bitOr top (getD words (2 * i) 0)) × (getD words (2 * i) 0 ≤ bitOr top (getD words (2 * i) 0))
+    both = or-within top (getD words (2 * i) 0)
+
+    at : (k : ℕ) → Dec (k ≡ i) → k < i + 1 → getD words (2 * k) 0 ≤ bitOr top (getD words (2 * i) 0)
+    at k (yes q) h = rw q (both .1)
+    at k (no ne) h = le-trans (U .within k (omega arith)) (both .0)
+
+-- a row above whose words nothing stands is the row of its words
+pub row-own : (s : List ℕ) (top : ℕ) → UppersWithin 384 s top → top < 2 ^ 62 → length s ≡ 768 → s ≡ rowOf 384 (wordAt s)
+unfolding halfOf wordAt wordOf
+row-own s top U small long = is-tabulate 0 s 768 (halfOf (wordAt s)) long (λ j h. at j (ℕ-discrete (j % 2) 0) h)
+  where
+    upper : (i : ℕ) → i < 384 → getD s (2 * i) 0 % 2 ^ 62 ≡ getD s (2 * i) 0
+    upper i h = mod-eq-of-lt (lt-of-le-of-lt (U .within i h) small)
+
+    at : (j : ℕ) → Dec (j % 2 ≡ 0) → j < 768 → getD s j 0 ≡ halfOf (wordAt s) j
+    at j (yes q) h =
+        let i : ℕ = j / 2 in
+        let e : j ≡ 2 * i = omega arith in
+        rw q (ap (λ (k : ℕ). getD s k 0) e ∙ sym (upper i (omega arith)) ∙ sym (high (getD s (2 * i) 0 % 2 ^ 62) 64 (U .number (2 * i + 1))))
+    at j (no ne) h =
+        let i : ℕ = j / 2 in
+        let e : j ≡ 2 * i + 1 = omega arith in
+        let q : j % 2 ≡ 1 = omega arith in
+        rw q (ap (λ (k : ℕ). getD s k 0) e ∙ sym (low (getD s (2 * i) 0 % 2 ^ 62) 64 (U .number (2 * i + 1))))

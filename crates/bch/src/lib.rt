@@ -8,7 +8,7 @@ ghost use Rattle.bits.specs.definitions.Words.{wordOf, wordAt, rowOf};
 ghost use Rattle.bch.specs.definitions.Code.{feedOf, remainder, parityOf};
 ghost use Rattle.bch.specs.definitions.Word.{informationOf, codedFrame};
 ghost use Rattle.bch.specs.private.Tables.{IsByteRemainders};
-ghost use Rattle.bch.specs.private.Folded.{FoldedWords};
+ghost use Rattle.bch.specs.private.Folded.{FoldedWords, UppersWithin};
 ghost use Rattle.bch.specs.private.Digits.{joined, numberAt, digitsOf};
 
 mod tables;
@@ -158,19 +158,39 @@ pub fn word_remainder(hi: u64, lo: u64) -> u16
     fold_digits(a, b, c, d)
 }
 
-// Each word of a frame folded into 64 bits; what stands above a word's 126 bits goes.
-fn fold_uppers(words: &mut [u64], out: &mut [u64])
+// Each word of a frame folded into 64 bits; and all the upper numbers in one, which none of them exceeds.
+fn fold_uppers(words: &[u64], out: &mut [u64]) -> u64
     requires { ⌜ (length (now words) ≡ 768) × (length (now out) ≡ 384) ⌝ }
-    ensures { λ _. ⌜ now (words .exit) ≡ rowOf 384 (wordAt (now (words .entry))) ⌝ }
+    ensures { λ top. ⌜ UppersWithin 384 (now (words .entry)) top ⌝ }
     ensures { λ _. ⌜ FoldedWords 64 384 (now (words .entry)) (now (out .exit)) ⌝ }
 {
+    let mut top: u64 = 0;
     let mut i: usize = 0;
     while i < 384 {
         let at = 2 * i;
         let hi = words[at];
         let lo = words[at + 1];
-        words[at] = hi % bits::TWO_62;
+        top = top | hi;
         out[i] = fold_upper(hi, lo);
+        i += 1;
+    }
+    top
+}
+
+// What stands above a word's 126 bits goes. Where no upper number can have more, as in a frame received, no word is looked at.
+fn trim_words(top: u64, words: &mut [u64])
+    requires { ⌜ length (now words) ≡ 768 ⌝ }
+    requires { ⌜ UppersWithin 384 (now words) top ⌝ }
+    ensures { λ _. ⌜ now (words .exit) ≡ rowOf 384 (wordAt (now (words .entry))) ⌝ }
+{
+    if top < bits::TWO_62 {
+        return;
+    }
+    let mut i: usize = 0;
+    while i < 384 {
+        let at = 2 * i;
+        let hi = words[at];
+        words[at] = hi % bits::TWO_62;
         i += 1;
     }
 }
@@ -223,7 +243,8 @@ pub fn remainders(words: &mut [u64; 768], out: &mut [u16; 384])
         × (now (out .exit) ≡ tabulate 384 (λ i. remainder 126 (wordAt (now (words .entry)) i))) ⌝ }
 {
     let mut folds = [0u64; 384];
-    fold_uppers(words, &mut folds);
+    let top = fold_uppers(words, &mut folds);
+    trim_words(top, words);
     let mut parts = [0u16; 1536];
     digits_of(&folds, &mut parts);
     digit_remainders(&parts, out);

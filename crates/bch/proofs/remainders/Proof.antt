@@ -6,8 +6,10 @@ use Rattle.bch.proofs.remainders.Tie as tie
 
 returns : tie.Need-returns
 returns c =
-    let folded = c .before .before .before .before .before .before .before .before .fold-uppers in
-    (folded .ensures .0, remainders-law _ (folded .ensures .1) (c .before .before .before .before .digits-of .ensures) (c .digit-remainders .ensures))
+    let digits = c .before .before .before .before in
+    let trimmed = digits .before .before .before in
+    let folded = trimmed .before .before .before .fold-uppers in
+    (trimmed .trim-words .ensures, remainders-law _ (folded .ensures .1) (digits .digits-of .ensures) (c .digit-remainders .ensures))
 
 pub remainders-spec : {M : Type 1} → statement M
 remainders-spec =
@@ -15,6 +17,7 @@ remainders-spec =
     (tie.spec
     (λ c. search needs)
     (λ c κs. search needs)
+    (λ c κs. (search needs, c .before .before .fold-uppers .ensures .0))
     (λ c. search needs)
     (λ c. search needs)
     (λ c κs. search needs)
