@@ -7,7 +7,7 @@ use Prim.Native.Nat.{ℕ, _+_, _-_, _*_, _/_, _%_, _^_, _≤_, _<_}
 use native.Mathlib.Nat.{mod-lt, add-assoc, add-mul, mul-assoc, mul-mod-left, mul-add-mod-self-right, add-zero}
 use native.Mathlib.Omega.{arith}
 use lib.Arith.{digits-div, digits-mod}
-use lib.Pow.{pow-add, pow-pos, shr-lt, shr-shr, shl-shr, shl-lt, split, high, low, field, mod-pow-add, mod-mod-pow}
+use lib.Pow.{pow-add, pow-pos, shr-lt, shr-shr, shl-shr, shl-lt, split, high, low, mod-pow-add, mod-mod-pow}
 use lib.Bits.{bitOr, or-shifted}
 use lib.Dec.{eqb}
 use lib.ListN.{length, getD}
@@ -104,12 +104,10 @@ word-middle hi lo a l h = sym whole
         ∙ ap₂ (λ (x y : ℕ). x % 2 ^ a * 2 ^ m + y) (high top m small) (low top m small)
         ∙ ap (λ (x : ℕ). x * 2 ^ m + lo / 2 ^ a) (ap (λ (n : ℕ). hi % 2 ^ n % 2 ^ a) rest ∙ mod-mod-pow hi (62 - a) a)
 
--- its first two
-pub word-top : (hi lo : ℕ) → lo < 2 ^ 64 → hi / 2 ^ 60 % 4 ≡ wordOf hi lo / 2 ^ 16 / 2 ^ 108
+-- its first 62
+pub word-first : (hi lo : ℕ) → lo < 2 ^ 64 → hi % 2 ^ 62 ≡ wordOf hi lo / 2 ^ 16 / 2 ^ 48
 unfolding wordOf
-word-top hi lo l =
-    let w = hi % 2 ^ 62 * 2 ^ 64 + lo in
-    sym (shr-shr w 16 108 ∙ sym (shr-shr w 64 60) ∙ ap (λ (x : ℕ). x / 2 ^ 60) (high (hi % 2 ^ 62) 64 l) ∙ field hi 2 60)
+word-first hi lo l = sym (shr-shr (hi % 2 ^ 62 * 2 ^ 64 + lo) 16 48 ∙ high (hi % 2 ^ 62) 64 l)
 
 -- the last of its information
 pub word-last : (hi lo a : ℕ) → lo < 2 ^ 64 → a ≤ 48 → lo / 65536 % 2 ^ a ≡ wordOf hi lo / 2 ^ 16 % 2 ^ a
@@ -169,7 +167,7 @@ module _ (s : List ℕ) where
       field-is (wordLanes s) (110 * j) 110 (bitOf 110 (w / 2 ^ 16)) (λ q b. lane-word-bit j q h b ∙ bit-information w q b)
       ∙ number-bits 110 (w / 2 ^ 16) (shr-lt 110 16 l)
 
-  -- in the two numbers that the loop reads
+  -- by its two numbers
   pub lanes-word : (j : ℕ) {hi lo : ℕ} → j < 384 → lo < 2 ^ 64 → hi ≡ getD s (2 * (32 * (j % 12) + j / 12)) 0 → lo ≡ getD s (2 * (32 * (j % 12) + j / 12) + 1) 0
       → fieldAt (wordLanes s) (110 * j) 110 ≡ wordOf hi lo / 2 ^ 16
   unfolding wordAt

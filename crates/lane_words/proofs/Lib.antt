@@ -1,4 +1,4 @@
 pub mod LaneWords
-pub mod Laying
+pub mod Joining
 pub mod Thirds
 pub mod Determined

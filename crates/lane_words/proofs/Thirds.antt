@@ -1,22 +1,21 @@
--- From a frame's lanes to its words: the loop that loads a number from eight bytes, the seven numbers of a third of a lane, the four words that they are, and
--- the row in which the words are placed. `Loading` and `Split` are the invariants; the measures are the bytes and the lanes that are left.
+-- From a frame's lanes to its words: the seven numbers of a third of a lane, the four words that they are, and the row in which the words are placed.
+-- `Split` is the invariant; the measure is the lanes that are left.
 -- Assumes nothing.
 use mathlib.Core.Path.{_≡_, refl, sym, ap, ap₂, _∙_, subst}
 use mathlib.Core.Logic.{_≢_}
 use mathlib.Core.Bool.{cond}
 use mathlib.Core.List.{List}
-use Prim.Native.Nat.{ℕ, _+_, _-_, _*_, _/_, _%_, _^_, _≤_, _<_, zero-le}
-use native.Mathlib.Nat.{add-comm, lt-of-lt-of-le, not-suc-le-zero}
+use Prim.Native.Nat.{ℕ, _+_, _-_, _*_, _/_, _%_, _^_, _<_}
+use native.Mathlib.Nat.{not-suc-le-zero}
 use native.Mathlib.Decide.{ℕ-discrete}
 use native.Mathlib.Omega.{arith}
 use lib.Dec.{eqb}
-use lib.Pow.{pow-mono, shl-exact}
 use lib.ListN.{length, getD, set, length-set}
 use lib.Seq.{getD-set-same, getD-set-other}
-use Rattle.bits.specs.definitions.Bits.{value, fieldAt, AllBytes}
+use Rattle.bits.specs.definitions.Bits.{fieldAt}
 use Rattle.bits.specs.definitions.Words.{halfOf}
 use Rattle.bits.proofs.Tabulate.{getD-tabulate, is-tabulate}
-use Rattle.bits.proofs.Fields.{field-lt, field-join, field-top, field-low, byte-field}
+use Rattle.bits.proofs.Fields.{field-join, field-top, field-low}
 use Rattle.lane_words.specs.definitions.LaneWords.{informationAt, laneWords}
 use Rattle.lane_words.specs.private.Thirds.{firstAt, lastAt, Numbers, withWord, wordPlace, Placed, Split}
 use Rattle.lane_words.proofs.LaneWords.{field-middle, word-law, joined-fields}
@@ -33,14 +32,14 @@ unfolding lastAt
 last-is a g b e = ap (λ (k : ℕ). fieldAt a k 64) e
 
 module _ {a firsts lasts : List ℕ} (N : Numbers a firsts lasts) where
-  first-at : (m b : ℕ) {x : ℕ} → x ≡ getD firsts m 0 → m < 576 → b ≡ 440 * (m / 6) + 64 * (m % 6) → x ≡ fieldAt a b 64
+  pub first-at : (m b : ℕ) {x : ℕ} → x ≡ getD firsts m 0 → m < 576 → b ≡ 440 * (m / 6) + 64 * (m % 6) → x ≡ fieldAt a b 64
   first-at m b e h eb = e ∙ ap (λ (s : List ℕ). getD s m 0) (N .firsts-are) ∙ getD-tabulate 576 (firstAt a) m 0 h ∙ sym (first-is a m b eb)
 
-  last-at : (g b : ℕ) {x : ℕ} → x ≡ getD lasts g 0 → g < 96 → b ≡ 440 * g + 376 → x ≡ fieldAt a b 64
+  pub last-at : (g b : ℕ) {x : ℕ} → x ≡ getD lasts g 0 → g < 96 → b ≡ 440 * g + 376 → x ≡ fieldAt a b 64
   last-at g b e h eb = e ∙ ap (λ (s : List ℕ). getD s g 0) (N .lasts-are) ∙ getD-tabulate 96 (lastAt a) g 0 h ∙ sym (last-is a g b eb)
 
 -- what `joined` gives
-abbrev join : ℕ → ℕ → ℕ → ℕ
+abbrev pub join : ℕ → ℕ → ℕ → ℕ
 join x y c = x % 2 ^ c * 2 ^ (64 - c) + y / 2 ^ c
 
 -- 64 bits out of two fields of which the second begins 56 bits behind the first, and the second's last 48

@@ -2,11 +2,11 @@
 // Word 32 k + p is word k of lane p. In the order of the lanes it is word 12 p + k, whose first bit is bit 110 (12 p + k) of the frame.
 ghost use mathlib.Core.Path.{_≡_};
 ghost use Prim.Native.Nat.{_+_, _*_, _-_, _/_, _%_, _^_, _<_, _≤_};
-ghost use lib.ListN.{length};
+ghost use lib.ListN.{length, set};
 ghost use Rattle.bits.specs.definitions.Bits.{tabulate, fieldAt};
 ghost use Rattle.bits.specs.private.Joins.{Put};
 ghost use Rattle.lane_words.specs.definitions.LaneWords.{laneWords, wordLanes};
-ghost use Rattle.lane_words.specs.private.Thirds.{firstAt, lastAt, withWord, Split};
+ghost use Rattle.lane_words.specs.private.Thirds.{firstAt, lastAt, Numbers, withWord, Split, acrossOf, withFirsts, Numbered, thirdByte, laneByte};
 
 // The eight bytes from byte o on, as a number, the last byte first: so the compiler makes one move of them.
 fn load(s: &[u8], o: usize) -> u64
@@ -125,50 +125,130 @@ pub fn to_words(lanes: &[u8; 5280], words: &mut [u64; 768])
     split_lanes(&firsts, &lasts, words);
 }
 
-// v as the eight bytes from byte o on.
+// v as the eight bytes from byte o on: reversed first, so that the compiler makes one move of them.
 fn put(out: &mut [u8], o: usize, v: u64)
     requires { ⌜ o + 8 ≤ length (now out) ⌝ }
     ensures { λ _. ⌜ Put 8 v o (now (out .entry)) (now (out .exit)) ⌝ }
 {
+    let w = bits::reversed(v);
     let mut j: usize = 0;
     while j < 8 {
-        let k = (8 * (8 - (j + 1))) as u64;
-        out[o + j] = bits::low_byte(v >> k);
+        let k = (8 * j) as u64;
+        out[o + j] = bits::low_byte(w >> k);
         j += 1;
     }
 }
 
-// Each word in the order of the lanes, in two writes: eight bytes from the one in which it begins, with the last bits of the word before; and eight
-// up to the one in which it ends. The next word is read between them, so that the compiler makes one move of each eight bytes.
-fn write_lanes(words: &[u64], lanes: &mut [u8])
-    requires { ⌜ (length (now words) ≡ 768) × (length (now lanes) ≡ 5280) ⌝ }
-    ensures { λ _. ⌜ now (lanes .exit) ≡ wordLanes (now (words .entry)) ⌝ }
+// The last a bits of the information of a word whose second number is lo, and then the first 64 - a of the next word, whose first is hi.
+fn across(lo: u64, hi: u64, a: u64) -> u64
+    requires { ⌜ (0 < a) × (a < 64) ⌝ }
+    ensures { λ r. ⌜ r ≡ acrossOf lo hi a ⌝ }
 {
-    let mut past: u64 = 0;
-    let mut hi = words[0];
-    let mut lo = words[1];
-    let mut j: usize = 0;
-    while j < 384 {
-        let b = 110 * j;
-        let e = b + 110;
-        let x = past * 4 + hi / bits::TWO_60 % 4;
-        let y = joined(hi, lo, 60);
-        put(lanes, b / 8, joined(x, y, (b % 8) as u64 + 2));
-        let next = j + 1;
-        let at = 2 * (32 * (next % 12) + next / 12);
-        let next_hi = words[at];
-        let next_lo = words[at + 1];
-        put(lanes, e / 8 - 8, joined(hi, lo, 16 + (e % 8) as u64));
-        past = lo / 65536;
-        hi = next_hi;
-        lo = next_lo;
-        j = next;
+    joined(lo >> 16, hi << 2, a)
+}
+
+// The seven numbers of third g.
+fn put_numbers(
+    firsts: &mut [u64],
+    lasts: &mut [u64],
+    g: usize,
+    n0: u64,
+    n1: u64,
+    n2: u64,
+    n3: u64,
+    n4: u64,
+    n5: u64,
+    last: u64,
+)
+    requires { ⌜ (length (now firsts) ≡ 576) × (length (now lasts) ≡ 96) × (g < 96) ⌝ }
+    ensures { λ _. ⌜ now (firsts .exit) ≡ withFirsts (now (firsts .entry)) g n0 n1 n2 n3 n4 n5 ⌝ }
+    ensures { λ _. ⌜ now (lasts .exit) ≡ set (now (lasts .entry)) g last ⌝ }
+{
+    let m = 6 * g;
+    firsts[m] = n0;
+    firsts[m + 1] = n1;
+    firsts[m + 2] = n2;
+    firsts[m + 3] = n3;
+    firsts[m + 4] = n4;
+    firsts[m + 5] = n5;
+    lasts[g] = last;
+}
+
+// Third t of lane p as seven numbers, out of the information of its four words, where the thirds before it are joined.
+fn join_third(words: &[u64], t: usize, p: usize, firsts: &mut [u64], lasts: &mut [u64])
+    requires { ⌜ (length (now words) ≡ 768) × (t < 3) × (p < 32) ⌝ }
+    requires { ⌜ Numbered (wordLanes (now words)) (3 * p + t) (now firsts) (now lasts) ⌝ }
+    ensures { λ _. ⌜ Numbered (wordLanes (now (words .entry))) (3 * p + t + 1) (now (firsts .exit)) (now (lasts .exit)) ⌝ }
+{
+    let g = 3 * p + t;
+    let at = 2 * (128 * t + p);
+    let h0 = words[at];
+    let l0 = words[at + 1];
+    let h1 = words[at + 64];
+    let l1 = words[at + 65];
+    let h2 = words[at + 128];
+    let l2 = words[at + 129];
+    let h3 = words[at + 192];
+    let l3 = words[at + 193];
+    let n0 = joined(h0, l0, 62);
+    let n1 = across(l0, h1, 46);
+    let n2 = joined(h1, l1, 44);
+    let n3 = across(l1, h2, 28);
+    let n4 = joined(h2, l2, 26);
+    let n5 = across(l2, h3, 10);
+    let last = joined(h3, l3, 16);
+    put_numbers(firsts, lasts, g, n0, n1, n2, n3, n4, n5, last);
+}
+
+// Every lane's three thirds.
+fn join_lanes(words: &[u64], firsts: &mut [u64], lasts: &mut [u64])
+    requires { ⌜ (length (now words) ≡ 768) × (length (now firsts) ≡ 576) × (length (now lasts) ≡ 96) ⌝ }
+    ensures { λ _. ⌜ Numbers (wordLanes (now (words .entry))) (now (firsts .exit)) (now (lasts .exit)) ⌝ }
+{
+    let mut p: usize = 0;
+    while p < 32 {
+        join_third(words, 0, p, firsts, lasts);
+        join_third(words, 1, p, firsts, lasts);
+        join_third(words, 2, p, firsts, lasts);
+        p += 1;
     }
 }
 
-// The lanes of a frame's words; what stands above bit 0 in a hi, and the parity bits, are not looked at.
+// The seven numbers of third g as its 55 bytes: the last shares a byte with the sixth.
+fn write_third(firsts: &[u64; 576], lasts: &[u64; 96], g: usize, out: &mut [u8])
+    requires { ⌜ (length (now out) ≡ 55) × (g < 96) ⌝ }
+    ensures { λ _. ⌜ now (out .exit) ≡ tabulate (length (now (out .entry))) (thirdByte (now (firsts .entry)) (now (lasts .entry)) g) ⌝ }
+{
+    let m = 6 * g;
+    let mut j: usize = 0;
+    while j < 6 {
+        put(out, 8 * j, firsts[m + j]);
+        j += 1;
+    }
+    put(out, 47, lasts[g]);
+}
+
+// Every third.
+fn write_thirds(firsts: &[u64; 576], lasts: &[u64; 96], lanes: &mut [u8])
+    requires { ⌜ length (now lanes) ≡ 5280 ⌝ }
+    ensures { λ _. ⌜ now (lanes .exit) ≡ tabulate 5280 (laneByte (now (firsts .entry)) (now (lasts .entry))) ⌝ }
+{
+    let mut g: usize = 0;
+    while g < 96 {
+        let at = 55 * g;
+        let end = at + 55;
+        write_third(firsts, lasts, g, &mut lanes[at..end]);
+        g += 1;
+    }
+}
+
+// The lanes of a frame's words; what stands above bit 0 in a hi, and the parity bits, are not looked at. All numbers are joined before one is written, so that
+// the compiler makes one move of each.
 pub fn to_lanes(words: &[u64; 768], lanes: &mut [u8; 5280])
     ensures { λ _. ⌜ now (lanes .exit) ≡ wordLanes (now (words .entry)) ⌝ }
 {
-    write_lanes(words, lanes);
+    let mut firsts = [0u64; 576];
+    let mut lasts = [0u64; 96];
+    join_lanes(words, &mut firsts, &mut lasts);
+    write_thirds(&firsts, &lasts, lanes);
 }

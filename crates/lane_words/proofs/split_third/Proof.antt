@@ -1,6 +1,7 @@
 -- `lane_words::split_third` meets its contract: the four words of a third are put in one after the other. Assumes nothing.
 use mathlib.Core.Path.{refl, sym, _∙_}
 use native.Mathlib.Omega.{arith}
+use lib.Dec.{lit<}
 use Rattle.lane_words.proofs.Thirds.{split-law}
 use Rattle.lane_words.proofs.split_third.Statement.{statement}
 use Rattle.lane_words.proofs.split_third.Tie as tie
@@ -45,22 +46,22 @@ split-third-spec =
     (λ c. omega arith)
     (λ c. omega arith)
     (λ c. omega arith)
-    (λ c κs. omega arith)
-    (λ c κs. omega arith)
-    (λ c. omega arith)
-    (λ c κs. omega arith)
-    (λ c κs. omega arith)
+    (λ c κs. (lit< tt, lit< tt))
     (λ c κs. omega arith)
     (λ c. omega arith)
+    (λ c κs. (lit< tt, lit< tt))
+    (λ c κs. (lit< tt, lit< tt))
     (λ c κs. omega arith)
-    (λ c κs. omega arith)
+    (λ c. omega arith)
+    (λ c κs. (lit< tt, lit< tt))
+    (λ c κs. (lit< tt, lit< tt))
     (λ c κs.
     let second = c .before .before .before .before .before in
     let one = second .before .before .before .before .before .before in
     let start = one .before .before .before .before .before .before .before .before .before .before .before in
     (second .put-word2 .ensures .1, omega (arith, start .pre .1), start .pre .2))
     (λ c. omega arith)
-    (λ c κs. omega arith)
+    (λ c κs. (lit< tt, lit< tt))
     (λ c κs.
     let third = c .before .before .before .before in
     let one = third .before .before .before .before .before .before .before .before .before .before .before .before in
