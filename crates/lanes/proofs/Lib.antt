@@ -2,6 +2,7 @@ pub mod Lists
 pub mod Entries
 pub mod Bytewise
 pub mod Starts
+pub mod Turns
 pub mod Frames
 pub mod Rows
 pub mod Stream

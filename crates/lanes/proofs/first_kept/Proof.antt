@@ -8,5 +8,5 @@ pub first-kept-spec : {M : Type 1} → statement M
 first-kept-spec =
     tie.close
     (tie.spec
-    (λ c. rw (c .if1 .taken) (record { row = omega arith; first = refl; second = refl; whole = refl }))
-    (λ c. rw (c .if1 .left) (record { row = omega arith; first = refl; second = refl; whole = refl })))
+    (λ c. rw (c .if1 .taken) (record { row = omega arith; first = refl; second = refl; whole = refl; other = λ q h a b. omega arith }))
+    (λ c. rw (c .if1 .left) (record { row = omega arith; first = refl; second = refl; whole = refl; other = λ q h a b. omega arith })))

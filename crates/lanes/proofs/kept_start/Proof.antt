@@ -28,7 +28,7 @@ returns-2 c =
     let a = start .args in
     let h = start .pre in
     let v = c .store-start .ensures in
-    let is = kept-stored (rowsOf (a .sending)) (rows-apart (a .sending)) (a .r) (a .q) (h .1) (h .2) (at .start .ensures) (at .before .if1 .left) in
+    let is = kept-stored (rowsOf (a .sending)) (rows-apart (a .sending)) (a .r) (a .q) (h .1) (h .2) (at .start .ensures .0) (at .before .if1 .left) in
     (v .0 ∙ ap (blockStart (a .p)) is, v .1)
 
 pub kept-start-spec : {M : Type 1} → statement M

@@ -6,6 +6,7 @@ use lib.ListN.{length-take, length-drop}
 use Rattle.bits.proofs.Filling.{Filling, filling-start, filling-done}
 use Rattle.lanes.specs.private.Blocks.{rowsOf, outFrom}
 use Rattle.lanes.proofs.Bytewise.{outOf, movedByte, lane-block, lane-step, five-165}
+use Rattle.lanes.proofs.Turns.{own-lane}
 use Rattle.lanes.proofs.lanes_out.Statement.{statement}
 use Rattle.lanes.proofs.lanes_out.Tie as tie
 
@@ -15,11 +16,24 @@ Inv-loop sending z out₀ p₀ out p = Filling (outOf (rowsOf sending) z) 5280 o
 abbrev μ-loop : tie.MeasureT-loop
 μ-loop sending z out₀ p₀ out p = 32 - p
 
+loop-holds : tie.Need-loop-holds Inv-loop μ-loop
+loop-holds c = filling-start _ (omega arith)
+
+lane-out-requires : tie.Need-lane-out-requires Inv-loop μ-loop
+lane-out-requires c κs =
+    let at = c .before .before in
+    let copy = at .before .before .before in
+    let start = copy .before .before .before .before in
+    let a = start .args in (
+      simp (length-take, length-drop) (omega arith),
+      own-lane (a .z .now) (a .out .now) (at .loop .p) _ (copy .copy .ensures) (at .loop .inv) (start .pre .0) (start .pre .1) (omega arith),
+    )
+
 loop-again : tie.Need-loop-again Inv-loop μ-loop
 loop-again c =
     let out = c .before .before in
     let at = out .before .before .before in
-    let a = at .before .before .before .args in
+    let a = at .before .before .before .before .before .before .before .args in
     let z = a .z .now in
     let R = rowsOf (a .sending) in
     let p = at .loop .p in
@@ -29,7 +43,7 @@ loop-again c =
 returns : tie.Need-returns Inv-loop μ-loop
 returns c = (
   filling-done _ (c .before .loop .inv) (omega arith),
-  record { byte = λ m. omega (arith, c .before .before .before .shared-slice-known .given m) },
+  record { byte = λ m. omega (arith, c .before .before .before .before .before .before .before .shared-slice-known .given m) },
 )
 
 pub lanes-out-spec : {M : Type 1} → statement M
@@ -38,13 +52,14 @@ lanes-out-spec =
     (tie.spec
     Inv-loop
     μ-loop
-    (λ c. filling-start _ (c .before .before .pre .1))
+    (λ c κs. tt)
+    loop-holds
     (λ c. omega arith)
     (λ c. omega arith)
     (λ c. omega arith)
     (λ c. omega arith)
     (λ c. omega arith)
-    (λ c κs. simp (length-take, length-drop) (omega arith))
+    lane-out-requires
     (λ c. omega arith)
     (λ c. omega arith)
     loop-again

@@ -5,4 +5,4 @@ use Rattle.lanes.proofs.start.Statement.{statement}
 use Rattle.lanes.proofs.start.Tie as tie
 
 pub start-spec : {M : Type 1} → statement M
-start-spec = tie.close (tie.spec (λ c. search needs) (λ c. rw (c .if1 .taken) (omega arith)) (λ c. search needs) (λ c. rw (c .if1 .left)))
+start-spec = tie.close (tie.spec (λ c. search needs) (λ c. rw (c .if1 .taken) (omega arith)) (λ c. search needs) (λ c. rw (c .if1 .left) (omega arith)))

@@ -2,12 +2,13 @@
 -- caller rests on a definition here.
 -- Assumes nothing.
 use mathlib.Core.Path.{_≡_}
+use mathlib.Core.Logic.{_≢_}
 use mathlib.Core.Bool.{Bool, cond}
 use mathlib.Core.List.{List}
-use Prim.Native.Nat.{ℕ, suc, _+_, _*_, _-_, _/_, _%_, _<_}
+use Prim.Native.Nat.{ℕ, suc, _+_, _*_, _-_, _/_, _%_, _<_, _≤_}
 use lib.Dec.{eqb, ltb}
 use lib.Bits.{bitAnd, bitXor}
-use lib.ListN.{getD}
+use lib.ListN.{length, getD}
 use Rattle.bits.specs.definitions.Bits.{bitOf}
 use Rattle.lanes.specs.definitions.Permutation.{named}
 use Rattle.lanes.specs.definitions.Interleaver.{Rows, sender, receiver, rowAt}
@@ -16,12 +17,13 @@ use Rattle.lanes.specs.definitions.Interleaver.{Rows, sender, receiver, 
 abbrev pub rowsOf : Bool → Rows
 rowsOf sending = cond sending sender receiver
 
--- rows r and r + 1 lie in a lane's store one after the other, and fill it
+-- rows r and r + 1 lie in a lane's store one after the other, and fill it; the other row holds nothing
 pub record FillStore (R : Rows) (r : ℕ) : Type 0 where
   pub row : r < 2
   pub first : R .start r ≡ 0
   pub second : R .start (r + 1) ≡ R .depth r
   pub whole : R .depth r + R .depth (r + 1) ≡ 18
+  pub other : (q : ℕ) → q < 3 → q ≢ r → q ≢ r + 1 → R .depth q ≡ 0
 
 -- where block b of lane p begins in a frame with its store behind it: the frame has 33 blocks a lane, and the store 18
 unfoldable pub blockStart : ℕ → ℕ → ℕ
@@ -37,6 +39,16 @@ outFrom R b = cond (ltb (b / 3) (d)) (33 + (R .start (b % 3) + (d - suc (b / 3))
   where
     d : ℕ
     d = R .depth (b % 3)
+
+-- how many of the eleven blocks that come out of a row as deep as d were in its store
+abbrev pub waitedOf : ℕ → ℕ
+waitedOf d = cond (ltb d 11) d 11
+
+-- the 165 bytes of lane p are those of o₀, but for the blocks that come out of row r at turns m to n - 1, of z, a frame with its store behind it
+pub record TurnsOut (R : Rows) (z : List ℕ) (p r m n : ℕ) (o₀ o : List ℕ) : Type 0 where
+  pub long : length o ≡ length o₀
+  pub here : (i : ℕ) → i < 165 → i / 5 % 3 ≡ r → m ≤ i / 15 → i / 15 < n → getD o i 0 ≡ blockByte z p (outFrom R (i / 5)) (i % 5)
+  pub there : (i : ℕ) → (i / 5 % 3 ≡ r → m ≤ i / 15 → i / 15 < n → ⊥) → getD o i 0 ≡ getD o₀ i 0
 
 -- the block that is kept as block j of the store
 unfoldable pub keptFrom : Rows → ℕ → ℕ
