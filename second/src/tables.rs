@@ -76,37 +76,28 @@ static PAIRS: [Pair; 5] = [
             },
             Table {
                 comment: "For a^e of the field, 125 - e round 127: the place of the bit whose value at a it is. \
-                    0 lies so far that no place is behind it.",
+                    0 for 0.",
                 name: "LOG",
                 element: "u8",
                 length: ROUND + 1,
-                entry: |value| place_of(value).unwrap_or(NONE) as u64,
+                entry: |value| place_of(value) as u64,
                 list: "log",
                 line: 16,
             },
             Table {
-                comment: "Three times that place, round 127; 0 for 0, where any number would do.",
+                comment: "Three times that place, round 127.",
                 name: "CUBE",
                 element: "u8",
                 length: ROUND + 1,
-                entry: |value| (3 * place_of(value).unwrap_or(0) % ROUND) as u64,
+                entry: |value| (3 * place_of(value) % ROUND) as u64,
                 list: "cube",
-                line: 16,
-            },
-            Table {
-                comment: "That place once more, for the value at a^3; 0 for 0, where any number would do.",
-                name: "LOG3",
-                element: "u8",
-                length: ROUND + 1,
-                entry: |value| place_of(value).unwrap_or(0) as u64,
-                list: "log3",
                 line: 16,
             },
             Table {
                 comment: "By how much one of at most two places lies behind the place of the sum of their \
                     values at a, at three times the place of that sum less the place of\n\
                     the sum at a^3, and 127 more; so it goes twice round 127. \
-                    254 where there is none: no place is so far behind.",
+                    254 where there is none, and so it is\nat 127, where the values 0 and 0 of no bit lead.",
                 name: "ONE",
                 element: "u8",
                 length: 2 * ROUND + 1,
@@ -124,10 +115,10 @@ static PAIRS: [Pair; 5] = [
                 line: 16,
             },
             Table {
-                comment: "A number round 127, which is a place; from 254 on it is 127, no place.",
+                comment: "A number round 127, which is a place; from 254 on it is 127, no place. It is a place and what is looked up behind it.",
                 name: "PLACE",
                 element: "u8",
-                length: 512,
+                length: ROUND + 255,
                 entry: |at| if at < NONE { at % ROUND } else { ROUND } as u64,
                 list: "place",
                 line: 16,
@@ -299,13 +290,13 @@ fn values(at: usize) -> u64 {
         .fold(0, |sum, n| sum ^ power(3 * n) << 7 ^ power(n))
 }
 
-/// What is added to a place, or to 0, where there is no place: twice round 127.
+/// What is added to a place to get none: twice round 127.
 const NONE: usize = 2 * ROUND;
 
-/// The place of the bit whose value at a is the value; 126 is no place of a word; none for 0.
-fn place_of(value: usize) -> Option<usize> {
+/// The place of the bit whose value at a is the value, 126 where no bit of a word has it; 0 for 0.
+fn place_of(value: usize) -> usize {
     // Bit i has the value a^(125 - i), and 252 is 125 round 127.
-    logarithm(value as u64).map(|e| (252 - e) % ROUND)
+    logarithm(value as u64).map_or(0, |e| (252 - e) % ROUND)
 }
 
 /// Of two bits with the values X and Y at a, and S = X + Y: x = X/S and y = Y/S have the sum 1, so
@@ -389,13 +380,13 @@ mod tests {
 
     #[test]
     fn flips_and_pairs_lead_back_to_their_places() {
-        let [field, log, cube, log3] = ["FIELD", "LOG", "CUBE", "LOG3"].map(entries);
+        let [field, log, cube] = ["FIELD", "LOG", "CUBE"].map(entries);
         let [one, other, place, column] = ["ONE", "OTHER", "PLACE", "COLUMNS"].map(entries);
         // From a remainder to two places, 127 where there is none.
         let places = |rest: u64| {
             let values = field[rest as usize % 256] ^ field[256 + rest as usize / 256];
             let (of_sum, of_cubes) = (values as usize % 128, values as usize / 128);
-            let by = (cube[of_sum] + 127 - log3[of_cubes]) as usize;
+            let by = (cube[of_sum] + 127 - log[of_cubes]) as usize;
             let mut two = [one[by], other[by]].map(|n| place[(log[of_sum] + n) as usize]);
             two.sort();
             two

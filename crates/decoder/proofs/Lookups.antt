@@ -77,9 +77,9 @@ single-light i = go (decLt i 126)
 
 -- ---- what the look-ups lead to
 
-module _ {field log cube log3 one other place : List ℕ} (F : Finds field log cube log3 one other place) (s : ℕ) (h : s < 65536) where
+module _ {field log cube one other place : List ℕ} (F : Finds field log cube one other place) (s : ℕ) (h : s < 65536) where
   abbrev looked : Pair
-  looked = locatedPair field log cube log3 one other place s
+  looked = locatedPair field log cube one other place s
 
   pub looked-within : (looked .first < 128) × (looked .second < 128)
   unfolding locatedPair placeBy
@@ -90,7 +90,7 @@ module _ {field log cube log3 one other place : List ℕ} (F : Finds field log c
 
   -- to a pattern's places, if one has the remainder
   leads : (m : Mend) → Pattern m → remainderOf m ≡ s → risingOf looked ≡ placesOf m
-  leads m P e = ap (λ (x : ℕ). risingOf (locatedPair field log cube log3 one other place x)) (sym e) ∙ finds-places F m P
+  leads m P e = ap (λ (x : ℕ). risingOf (locatedPair field log cube one other place x)) (sym e) ∙ finds-places F m P
 
   columns-of : bitXor (column (looked .first)) (column (looked .second)) ≡ remainder 126 (both looked)
   unfolding column

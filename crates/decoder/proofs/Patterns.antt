@@ -21,7 +21,7 @@ use Rattle.decoder_tables.specs.declared.Pair.{Pair}
 use Rattle.decoder.specs.declared.Mend.{Mend}
 use Rattle.decoder.specs.declared.Mend.the-variants.{Clean, One, Two, Flagged}
 use Rattle.bch.proofs.Remainder.{remainder-xor, remainder-zero, remainder-code-xor, remainder-lt, remainder-lead, remainder-own}
-use Rattle.decoder_tables.proofs.Lists.{field, log, cube, log3, one, other, place}
+use Rattle.decoder_tables.proofs.Lists.{field, log, cube, one, other, place}
 use Rattle.decoder_tables.proofs.Entries.{finds}
 
 -- the word whose bits are the pattern's
@@ -71,8 +71,8 @@ places-apart m n P Q e = go m n P Q (ap (λ (p : Pair). p .first) e) (ap (λ (p 
     go (Two i k) Flagged P Q e f = absurd Q
     go Flagged n P Q e f = absurd P
 
-pub finds-places : {field log cube log3 one other place : List ℕ} → Finds field log cube log3 one other place → (m : Mend) → Pattern m
-    → risingOf (locatedPair field log cube log3 one other place (remainderOf m)) ≡ placesOf m
+pub finds-places : {field log cube one other place : List ℕ} → Finds field log cube one other place → (m : Mend) → Pattern m
+    → risingOf (locatedPair field log cube one other place (remainderOf m)) ≡ placesOf m
 unfolding Pattern remainderOf placesOf
 finds-places F Clean P = F .no-bit
 finds-places F (One i) h = F .one-bit i h
@@ -82,7 +82,7 @@ finds-places F Flagged P = absurd P
 pub patterns-apart : (m n : Mend) → Pattern m → Pattern n → remainderOf m ≡ remainderOf n → m ≡ n
 patterns-apart m n P Q e =
     places-apart m n P Q
-    (sym (finds-places finds m P) ∙ ap (λ (s : ℕ). risingOf (locatedPair field log cube log3 one other place s)) e ∙ finds-places finds n Q)
+    (sym (finds-places finds m P) ∙ ap (λ (s : ℕ). risingOf (locatedPair field log cube one other place s)) e ∙ finds-places finds n Q)
 
 pub answers-unique : (s : ℕ) (m n : Mend) → Answers s m → Answers s n → m ≡ n
 answers-unique s m n (inl (P, e)) (inl (Q, f)) = patterns-apart m n P Q (e ∙ sym f)

@@ -70,21 +70,20 @@ fn located(
     field: &[u16; 512],
     log: &[u8; 128],
     cube: &[u8; 128],
-    log3: &[u8; 128],
     one: &[u8; 255],
     other: &[u8; 255],
-    place: &[u8; 512],
+    place: &[u8; 382],
     s: u64,
 ) -> decoder_tables::Pair
-    requires { ⌜ Finds (now field) (now log) (now cube) (now log3) (now one) (now other) (now place) ⌝ }
+    requires { ⌜ Finds (now field) (now log) (now cube) (now one) (now other) (now place) ⌝ }
     requires { ⌜ s < 65536 ⌝ }
-    ensures { λ p. ⌜ p ≡ locatedPair (now (field .entry)) (now (log .entry)) (now (cube .entry)) (now (log3 .entry)) (now (one .entry)) (now (other .entry))
+    ensures { λ p. ⌜ p ≡ locatedPair (now (field .entry)) (now (log .entry)) (now (cube .entry)) (now (one .entry)) (now (other .entry))
         (now (place .entry)) s ⌝ }
 {
     let v = values(field, s);
     let x = small_entry(log, v % 128);
     let c = small_entry(cube, v % 128);
-    let y = small_entry(log3, v / 128 % 128);
+    let y = small_entry(log, v / 128 % 128);
     let q = c + 127 - y;
     let m = small_entry(one, q);
     let n = small_entry(other, q);
@@ -131,19 +130,18 @@ fn find(
     field: &[u16; 512],
     log: &[u8; 128],
     cube: &[u8; 128],
-    log3: &[u8; 128],
     one: &[u8; 255],
     other: &[u8; 255],
-    place: &[u8; 512],
+    place: &[u8; 382],
     column: &[u16; 128],
     s: u64,
 ) -> Found
-    requires { ⌜ Finds (now field) (now log) (now cube) (now log3) (now one) (now other) (now place) ⌝ }
+    requires { ⌜ Finds (now field) (now log) (now cube) (now one) (now other) (now place) ⌝ }
     requires { ⌜ IsColumns (now column) ⌝ }
     requires { ⌜ s < 65536 ⌝ }
     ensures { λ f. ⌜ Tells (mend s) f ⌝ }
 {
-    let p = located(field, log, cube, log3, one, other, place, s);
+    let p = located(field, log, cube, one, other, place, s);
     confirm(column, s, p)
 }
 
@@ -213,14 +211,13 @@ pub fn decode(hi: u64, lo: u64) -> Decoded
     let field = tables.field;
     let log = tables.log;
     let cube = tables.cube;
-    let log3 = tables.log3;
     let one = tables.one;
     let other = tables.other;
     let place = tables.place;
     let column = decoder_tables::columns();
     let bit = decoder_tables::single_bits();
     let s = bits::wide16(bch::word_remainder(hi, lo));
-    let f = find(&field, &log, &cube, &log3, &one, &other, &place, &column, s);
+    let f = find(&field, &log, &cube, &one, &other, &place, &column, s);
     let p = f.places;
     let w = flip(&bit, hi % bits::TWO_62, lo, p);
     Decoded {
@@ -259,17 +256,16 @@ fn mend_eight(
     field: &[u16; 512],
     log: &[u8; 128],
     cube: &[u8; 128],
-    log3: &[u8; 128],
     one: &[u8; 255],
     other: &[u8; 255],
-    place: &[u8; 512],
+    place: &[u8; 382],
     column: &[u16; 128],
     bit: &[u64; 256],
     rest: &[u16],
     words: &mut [u64],
     flags: &mut [u8],
 )
-    requires { ⌜ Finds (now field) (now log) (now cube) (now log3) (now one) (now other) (now place) ⌝ }
+    requires { ⌜ Finds (now field) (now log) (now cube) (now one) (now other) (now place) ⌝ }
     requires { ⌜ IsColumns (now column) ⌝ }
     requires { ⌜ IsSingleBits (now bit) ⌝ }
     requires { ⌜ (length (now rest) ≡ 8) × (length (now words) ≡ 16) × (length (now flags) ≡ 8) ⌝ }
@@ -282,7 +278,7 @@ fn mend_eight(
         let hi = words[at];
         let lo = words[at + 1];
         let s = bits::wide16(rest[i]);
-        let f = find(field, log, cube, log3, one, other, place, column, s);
+        let f = find(field, log, cube, one, other, place, column, s);
         let p = f.places;
         let w = flip(bit, hi, lo, p);
         words[at] = w.hi;
@@ -297,17 +293,16 @@ fn mend_group(
     field: &[u16; 512],
     log: &[u8; 128],
     cube: &[u8; 128],
-    log3: &[u8; 128],
     one: &[u8; 255],
     other: &[u8; 255],
-    place: &[u8; 512],
+    place: &[u8; 382],
     column: &[u16; 128],
     bit: &[u64; 256],
     rest: &[u16],
     words: &mut [u64],
     flags: &mut [u8],
 )
-    requires { ⌜ Finds (now field) (now log) (now cube) (now log3) (now one) (now other) (now place) ⌝ }
+    requires { ⌜ Finds (now field) (now log) (now cube) (now one) (now other) (now place) ⌝ }
     requires { ⌜ IsColumns (now column) ⌝ }
     requires { ⌜ IsSingleBits (now bit) ⌝ }
     requires { ⌜ (length (now rest) ≡ 8) × (length (now words) ≡ 16) × (length (now flags) ≡ 8) ⌝ }
@@ -321,7 +316,6 @@ fn mend_group(
             field,
             log,
             cube,
-            log3,
             one,
             other,
             place,
@@ -339,17 +333,16 @@ fn mend_words(
     field: &[u16; 512],
     log: &[u8; 128],
     cube: &[u8; 128],
-    log3: &[u8; 128],
     one: &[u8; 255],
     other: &[u8; 255],
-    place: &[u8; 512],
+    place: &[u8; 382],
     column: &[u16; 128],
     bit: &[u64; 256],
     rest: &[u16],
     words: &mut [u64],
     flags: &mut [u8],
 )
-    requires { ⌜ Finds (now field) (now log) (now cube) (now log3) (now one) (now other) (now place) ⌝ }
+    requires { ⌜ Finds (now field) (now log) (now cube) (now one) (now other) (now place) ⌝ }
     requires { ⌜ IsColumns (now column) ⌝ }
     requires { ⌜ IsSingleBits (now bit) ⌝ }
     requires { ⌜ (length (now rest) ≡ 384) × (length (now words) ≡ 768) × (length (now flags) ≡ 384) ⌝ }
@@ -365,7 +358,6 @@ fn mend_words(
             field,
             log,
             cube,
-            log3,
             one,
             other,
             place,
@@ -389,7 +381,6 @@ fn mend_frame(rest: &[u16], words: &mut [u64], flags: &mut [u8])
     let field = tables.field;
     let log = tables.log;
     let cube = tables.cube;
-    let log3 = tables.log3;
     let one = tables.one;
     let other = tables.other;
     let place = tables.place;
@@ -399,7 +390,6 @@ fn mend_frame(rest: &[u16], words: &mut [u64], flags: &mut [u8])
         &field,
         &log,
         &cube,
-        &log3,
         &one,
         &other,
         &place,

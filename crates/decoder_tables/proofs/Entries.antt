@@ -19,7 +19,7 @@ use Rattle.bch.specs.definitions.Code.{stepOf, feedOf, remainder}
 use Rattle.decoder_tables.specs.private.Tables.{single, column, IsColumns, IsSingleBits, Finds, placeBy, locatedPair, valuesOf, risingOf}
 use Rattle.decoder_tables.specs.declared.Pair.{Pair}
 use Rattle.bch.proofs.Remainder.{remainder-lt, remainder-zero, remainder-power}
-use Rattle.decoder_tables.proofs.Lists.{field, log, cube, log3, one, other, place, columns, singleBits}
+use Rattle.decoder_tables.proofs.Lists.{field, log, cube, one, other, place, columns, singleBits}
 
 -- ---- `COLUMNS`: entry 125 is 1, each before it is the one behind it times x, and those of no bit are 0
 
@@ -89,7 +89,7 @@ is-single-bits =
     rule : (i : ℕ) → i < 128 → T (single-ok i)
     rule i h = range-rule single-ok 128 0 single-test i (omega arith) h
 
--- ---- the other seven: from the remainder of each pattern of at most two bits they lead to its places
+-- ---- the other six: from the remainder of each pattern of at most two bits they lead to its places
 
 -- `FIELD` is two tables of sums, for the two bytes of a remainder
 low : ℕ → ℕ
@@ -121,7 +121,7 @@ values-xor s t hs ht =
 
 -- the places that the look-ups lead to from the values v, in rising order
 located : ℕ → Pair
-located v = risingOf (record { first = placeBy log cube log3 one place v; second = placeBy log cube log3 other place v })
+located v = risingOf (record { first = placeBy log cube one place v; second = placeBy log cube other place v })
 
 leads : Pair → ℕ → ℕ → Bool
 leads p i j = eqb (p .first) i && eqb (p .second) j
@@ -166,15 +166,15 @@ most n [] i h k = zero-le
 most n (x ∷ t) i h zero = leb→le x n (and-left (leb x n) (every (λ k x. leb x n) (suc i) t) h)
 most n (x ∷ t) i h (suc k) = most n t (suc i) (and-right (leb x n) (every (λ k x. leb x n) (suc i) t) h) k
 
-pub finds : Finds field log cube log3 one other place
+pub finds : Finds field log cube one other place
 unfolding locatedPair placeBy valuesOf risingOf located one-ok two-ok values
 finds =
     record {
       no-bit = refl;
       one-bit = lone;
       two-bits = both;
+      log-most = most 126 log 0 tt;
       cube-most = most 126 cube 0 tt;
-      log3-most = most 126 log3 0 tt;
       place-most = most 127 place 0 tt;
     }
   where

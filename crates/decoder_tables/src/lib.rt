@@ -14,10 +14,9 @@ pub struct Locator {
     pub field: [u16; 512],
     pub log: [u8; 128],
     pub cube: [u8; 128],
-    pub log3: [u8; 128],
     pub one: [u8; 255],
     pub other: [u8; 255],
-    pub place: [u8; 512],
+    pub place: [u8; 382],
 }
 
 // The remainders of single bits.
@@ -36,13 +35,12 @@ pub fn single_bits() -> [u64; 256]
 
 // The tables that lead to places.
 pub fn places() -> Locator
-    ensures { λ t. ⌜ Finds (t .field) (t .log) (t .cube) (t .log3) (t .one) (t .other) (t .place) ⌝ }
+    ensures { λ t. ⌜ Finds (t .field) (t .log) (t .cube) (t .one) (t .other) (t .place) ⌝ }
 {
     Locator {
         field: tables::FIELD,
         log: tables::LOG,
         cube: tables::CUBE,
-        log3: tables::LOG3,
         one: tables::ONE,
         other: tables::OTHER,
         place: tables::PLACE,

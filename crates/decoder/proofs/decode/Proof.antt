@@ -10,8 +10,8 @@ returns : tie.Need-returns
 unfolding wordOf
 returns c =
     let f = c .before .before .before .before .find in
-    let wide = c .before .before .before .before .before .before .before .before .before .before .before .before .before in
-    let a = wide .before .before .before .before .before .before .before .before .before .before .before .before .args in
+    let wide = c .before .before .before .before .before .before .before .before .before .before .before .before in
+    let a = wide .before .before .before .before .before .before .before .before .before .before .before .args in
     decoded-is (wordOf (a .hi) (a .lo)) (wide .wide16 .result) _ _ (f .result) _ (wide .wide16 .ensures .0 ∙ wide .before .word-remainder .ensures)
     (f .ensures) (c .before .flip .ensures .0) (c .before .flip .ensures .1) (c .pattern .ensures)
 

@@ -9,7 +9,7 @@ use Rattle.decoder.proofs.located.Tie as tie
 sub-q : tie.Need-sub-q
 sub-q c =
     let first = c .before .before .before .before .before .before in
-    omega (arith, first .before .pre .0 .log3-most (first .values .result / 128 % 128))
+    omega (arith, first .before .pre .0 .log-most (first .values .result / 128 % 128))
 
 small-entry-requires-4 : tie.Need-small-entry-requires-4
 small-entry-requires-4 c κs =
@@ -20,6 +20,16 @@ small-entry-requires-5 : tie.Need-small-entry-requires-5
 small-entry-requires-5 c κs =
     let first = c .before .before .before .before .before .before .before .before .before in
     omega (arith, first .before .pre .0 .cube-most (first .values .result % 128))
+
+small-entry-requires-6 : tie.Need-small-entry-requires-6
+small-entry-requires-6 c κs =
+    let first = c .before .before .before .before .before .before .before .before .before .before .before in
+    omega (arith, first .before .pre .0 .log-most (first .values .result % 128))
+
+small-entry-requires-7 : tie.Need-small-entry-requires-7
+small-entry-requires-7 c κs =
+    let first = c .before .before .before .before .before .before .before .before .before .before .before .before .before in
+    omega (arith, first .before .pre .0 .log-most (first .values .result % 128))
 
 returns : tie.Need-returns
 unfolding locatedPair placeBy
@@ -48,7 +58,7 @@ located-spec =
     small-entry-requires-4
     small-entry-requires-5
     (λ c. search needs)
-    (λ c κs. search needs)
+    small-entry-requires-6
     (λ c. search needs)
-    (λ c κs. search needs)
+    small-entry-requires-7
     returns)

@@ -13,11 +13,11 @@ use Rattle.decoder.proofs.mend_eight.Statement.{statement}
 use Rattle.decoder.proofs.mend_eight.Tie as tie
 
 abbrev Inv-loop : tie.InvT-loop
-Inv-loop field log cube log3 one other place column bit rest words₀ flags₀ i₀ words flags i =
+Inv-loop field log cube one other place column bit rest words₀ flags₀ i₀ words flags i =
     Rewriting (passed words₀) 8 words₀ words i × Filling (flagAt words₀) 8 flags₀ flags i
 
 abbrev μ-loop : tie.MeasureT-loop
-μ-loop field log cube log3 one other place column bit rest words₀ flags₀ i₀ words flags i = 8 - i
+μ-loop field log cube one other place column bit rest words₀ flags₀ i₀ words flags i = 8 - i
 
 find-requires : tie.Need-find-requires Inv-loop μ-loop
 find-requires c κs =

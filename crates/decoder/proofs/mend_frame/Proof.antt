@@ -5,8 +5,8 @@ use Rattle.decoder.proofs.mend_frame.Tie as tie
 
 mend-words-requires : tie.Need-mend-words-requires
 mend-words-requires c κs =
-    let bits = c .before .before .before .before .before .before .before .before .before .before .before in
-    let places = bits .before .before .before .before .before .before .before .before .before in
+    let bits = c .before .before .before .before .before .before .before .before .before .before in
+    let places = bits .before .before .before .before .before .before .before .before in
     let p = places .before .before .before .before .pre in
     (places .places .ensures, (bits .before .columns .ensures, (bits .single-bits .ensures, (p .0, p .1))))
 

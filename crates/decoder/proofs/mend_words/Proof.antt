@@ -10,11 +10,11 @@ use Rattle.decoder.proofs.mend_words.Statement.{statement}
 use Rattle.decoder.proofs.mend_words.Tie as tie
 
 abbrev Inv-loop : tie.InvT-loop
-Inv-loop field log cube log3 one other place column bit rest words₀ flags₀ g₀ words flags g =
+Inv-loop field log cube one other place column bit rest words₀ flags₀ g₀ words flags g =
     Rewriting (passed words₀) 384 words₀ words g × Filling (flagAt words₀) 384 flags₀ flags g × (g % 8 ≡ 0)
 
 abbrev μ-loop : tie.MeasureT-loop
-μ-loop field log cube log3 one other place column bit rest words₀ flags₀ g₀ words flags g = 384 - g
+μ-loop field log cube one other place column bit rest words₀ flags₀ g₀ words flags g = 384 - g
 
 mend-group-requires : tie.Need-mend-group-requires Inv-loop μ-loop
 mend-group-requires c κs =

@@ -37,21 +37,21 @@ unfoldable pub valuesOf : List ℕ → ℕ → ℕ
 valuesOf field s = bitXor (getD field (s % 256) 0) (getD field (256 + s / 256) 0)
 
 -- the place that the look-ups lead to from the values v: the place of the first value, moved by what lies between the two, in one of two tables
-unfoldable pub placeBy : (log cube log3 move place : List ℕ) → ℕ → ℕ
-placeBy log cube log3 move place v =
-    getD place (getD log (v % 128) 0 + getD move (getD cube (v % 128) 0 + 127 - getD log3 (v / 128 % 128) 0) 0) 0
+unfoldable pub placeBy : (log cube move place : List ℕ) → ℕ → ℕ
+placeBy log cube move place v =
+    getD place (getD log (v % 128) 0 + getD move (getD cube (v % 128) 0 + 127 - getD log (v / 128 % 128) 0) 0) 0
 
 -- the two places that the look-ups lead to from the remainder s
-unfoldable pub locatedPair : (field log cube log3 one other place : List ℕ) → ℕ → Pair
-locatedPair field log cube log3 one other place s =
-    record { first = placeBy log cube log3 one place (valuesOf field s); second = placeBy log cube log3 other place (valuesOf field s) }
+unfoldable pub locatedPair : (field log cube one other place : List ℕ) → ℕ → Pair
+locatedPair field log cube one other place s =
+    record { first = placeBy log cube one place (valuesOf field s); second = placeBy log cube other place (valuesOf field s) }
 
 -- `places`: from the remainder of at most two bits the look-ups lead to their places, 127 for none; and from any remainder they stay within the tables
-pub record Finds (field log cube log3 one other place : List ℕ) : Type 0 where
-  pub no-bit : risingOf (locatedPair field log cube log3 one other place 0) ≡ record { first = 127; second = 127 }
-  pub one-bit : (i : ℕ) → i < 126 → risingOf (locatedPair field log cube log3 one other place (column i)) ≡ record { first = i; second = 127 }
+pub record Finds (field log cube one other place : List ℕ) : Type 0 where
+  pub no-bit : risingOf (locatedPair field log cube one other place 0) ≡ record { first = 127; second = 127 }
+  pub one-bit : (i : ℕ) → i < 126 → risingOf (locatedPair field log cube one other place (column i)) ≡ record { first = i; second = 127 }
   pub two-bits : (i j : ℕ) → i < j → j < 126
-      → risingOf (locatedPair field log cube log3 one other place (bitXor (column i) (column j))) ≡ record { first = i; second = j }
+      → risingOf (locatedPair field log cube one other place (bitXor (column i) (column j))) ≡ record { first = i; second = j }
+  pub log-most : (k : ℕ) → getD log k 0 ≤ 126
   pub cube-most : (k : ℕ) → getD cube k 0 ≤ 126
-  pub log3-most : (k : ℕ) → getD log3 k 0 ≤ 126
   pub place-most : (k : ℕ) → getD place k 0 ≤ 127
