@@ -166,8 +166,8 @@ flip-law : (t : List ℕ) → IsSingleBits t → (hi lo i : ℕ) → lo < 2 ^ 64
     → (bitXor hi (getD t (2 * i) 0) * 2 ^ 64 + bitXor lo (getD t (2 * i + 1) 0) ≡ bitXor (hi * 2 ^ 64 + lo) (single i))
     × (bitXor lo (getD t (2 * i + 1) 0) < 2 ^ 64)
 flip-law t T hi lo i l b = (
-  sym (xor-block 64 hi (getD t (2 * i) 0) lo (getD t (2 * i + 1) 0) l (T .small i b .1)) ∙ ap (bitXor (hi * 2 ^ 64 + lo)) (T .entry i b),
-  xor-lt 64 lo (getD t (2 * i + 1) 0) l (T .small i b .1),
+  sym (xor-block 64 hi (getD t (2 * i) 0) lo (getD t (2 * i + 1) 0) l (T .small i b)) ∙ ap (bitXor (hi * 2 ^ 64 + lo)) (T .entry i b),
+  xor-lt 64 lo (getD t (2 * i + 1) 0) l (T .small i b),
 )
 
 pub flips-law : (t : List ℕ) → IsSingleBits t → (hi lo : ℕ) (p : Pair) → lo < 2 ^ 64 → p .first < 128 → p .second < 128

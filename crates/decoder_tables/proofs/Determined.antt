@@ -23,10 +23,10 @@ columns-determined κs a x y s t lx ly p q = (ext-getD 0 x y (lx ∙ sym ly) (λ
 
 -- the two numbers of a single bit
 upper : (t : List ℕ) → IsSingleBits t → (i : ℕ) → i < 128 → getD t (2 * i) 0 ≡ single i / 2 ^ 64
-upper t B i h = sym (digits-div (getD t (2 * i) 0) (B .small i h .1)) ∙ ap (λ (n : ℕ). n / 2 ^ 64) (B .entry i h)
+upper t B i h = sym (digits-div (getD t (2 * i) 0) (B .small i h)) ∙ ap (λ (n : ℕ). n / 2 ^ 64) (B .entry i h)
 
 lower : (t : List ℕ) → IsSingleBits t → (i : ℕ) → i < 128 → getD t (2 * i + 1) 0 ≡ single i % 2 ^ 64
-lower t B i h = sym (digits-mod (getD t (2 * i) 0) (B .small i h .1)) ∙ ap (λ (n : ℕ). n % 2 ^ 64) (B .entry i h)
+lower t B i h = sym (digits-mod (getD t (2 * i) 0) (B .small i h)) ∙ ap (λ (n : ℕ). n % 2 ^ 64) (B .entry i h)
 
 pub single-bits-determined : FixesTyped 0 bits-kinds.ps bits-kinds.r (λ κs x. length x ≡ 256) bits-reads.Post (λ κs s t. Unit)
 single-bits-determined κs a x y s t lx ly p q = (ext-getD 0 x y (lx ∙ sym ly) (λ k h. same k (omega arith) (bit-cases (k % 2) (omega arith))), tt)

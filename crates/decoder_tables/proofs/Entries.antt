@@ -61,8 +61,7 @@ is-columns = record { entry = column-entry }
 
 single-ok : ℕ → Bool
 single-ok i =
-    eqb (getD singleBits (2 * i) 0 * 2 ^ 64 + getD singleBits (2 * i + 1) 0) (single i) &&
-    (ltb (getD singleBits (2 * i) 0) (2 ^ 62) && ltb (getD singleBits (2 * i + 1) 0) (2 ^ 64))
+    eqb (getD singleBits (2 * i) 0 * 2 ^ 64 + getD singleBits (2 * i + 1) 0) (single i) && ltb (getD singleBits (2 * i + 1) 0) (2 ^ 64)
 
 single-test : T (each single-ok 128 0)
 unfolding single-ok single
@@ -73,18 +72,14 @@ unfolding single-ok
 is-single-bits =
     record {
       entry = λ i h. eqb→eq (number i) (single i) (and-left (eqb (number i) (single i)) (fits i) (rule i h));
-      small = λ i h.
-          let f = and-right (eqb (number i) (single i)) (fits i) (rule i h) in
-          let upper = ltb (getD singleBits (2 * i) 0) (2 ^ 62) in
-          let lower = ltb (getD singleBits (2 * i + 1) 0) (2 ^ 64) in
-          (ltb→lt (getD singleBits (2 * i) 0) (2 ^ 62) (and-left upper lower f), ltb→lt (getD singleBits (2 * i + 1) 0) (2 ^ 64) (and-right upper lower f));
+      small = λ i h. ltb→lt (getD singleBits (2 * i + 1) 0) (2 ^ 64) (and-right (eqb (number i) (single i)) (fits i) (rule i h));
     }
   where
     number : ℕ → ℕ
     number i = getD singleBits (2 * i) 0 * 2 ^ 64 + getD singleBits (2 * i + 1) 0
 
     fits : ℕ → Bool
-    fits i = ltb (getD singleBits (2 * i) 0) (2 ^ 62) && ltb (getD singleBits (2 * i + 1) 0) (2 ^ 64)
+    fits i = ltb (getD singleBits (2 * i + 1) 0) (2 ^ 64)
 
     rule : (i : ℕ) → i < 128 → T (single-ok i)
     rule i h = range-rule single-ok 128 0 single-test i (omega arith) h

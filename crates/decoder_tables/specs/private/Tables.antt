@@ -26,7 +26,7 @@ pub record IsColumns (t : List ℕ) : Type 0 where
 -- `single_bits`: entries 2 i and 2 i + 1 are the two numbers of the word whose only bit is bit i, or of 0
 pub record IsSingleBits (t : List ℕ) : Type 0 where
   pub entry : (i : ℕ) → i < 128 → getD t (2 * i) 0 * 2 ^ 64 + getD t (2 * i + 1) 0 ≡ single i
-  pub small : (i : ℕ) → i < 128 → (getD t (2 * i) 0 < 2 ^ 62) × (getD t (2 * i + 1) 0 < 2 ^ 64)
+  pub small : (i : ℕ) → i < 128 → getD t (2 * i + 1) 0 < 2 ^ 64
 
 -- two places in rising order
 unfoldable pub risingOf : Pair → Pair
