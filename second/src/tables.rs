@@ -4,7 +4,7 @@
 
 use crate::lanes::{BLOCK_BYTES, SYMBOL_BITS};
 use crate::symbols::{source, PILOTS, PILOT_COUNT};
-use crate::word::{only_bit, parity, remainder, split, INFORMATION_BITS, PARITY_BITS, WORD_BITS};
+use crate::word::{only_bit, parity, remainder, split, PARITY_BITS, WORD_BITS};
 
 /// A table: its names as code and as list, and the rule of its entries.
 struct Table {
@@ -60,19 +60,10 @@ static PAIRS: [Pair; 5] = [
     Pair {
         folder: "decoder_tables",
         comment: "The tables of the decoder. Written by the program `tables` of second/; \
-            proofs/Entries has their rules: of REMAINDERS, COLUMNS and SINGLE_BITS by a test over\n\
-            the table, of the other three together by a test over all 8,002 patterns of at most two bits.",
+            proofs/Entries has their rules: of COLUMNS and SINGLE_BITS by a test over the table,\n\
+            of the others together by a test over all 8,002 patterns of at most two bits.",
         lists: OF_PROOFS,
         tables: &[
-            Table {
-                comment: "The remainder of byte b times x^(8 p + 16), at 256 p + b.",
-                name: "REMAINDERS",
-                element: "u16",
-                length: 256 * INFORMATION_BITS.div_ceil(8) as usize,
-                entry: remainder_of_byte,
-                list: "remainders",
-                line: 16,
-            },
             Table {
                 comment: "For byte b of place k of a remainder, at 256 k + b: its values at a and \
                     at a^3 in the field of 128, a^7 = a^3 + 1, in seven bits\neach, that at a^3 on top.",
@@ -84,43 +75,70 @@ static PAIRS: [Pair; 5] = [
                 line: 16,
             },
             Table {
-                comment: "For a^e of the field, 125 - e round 127, the place of the bit whose \
-                    value at a it is, and above it three times that round 127.\n\
-                    0 has the entry of place 126, which no bit has.",
+                comment: "For a^e of the field, 125 - e round 127: the place of the bit whose value at a it is. \
+                    0 for 0.",
                 name: "LOG",
-                element: "u16",
+                element: "u8",
                 length: ROUND + 1,
-                entry: place_and_three_times,
+                entry: |value| place_of(value) as u64,
                 list: "log",
                 line: 16,
             },
             Table {
-                comment: "By how much two places lie behind the place of the sum of their values at a, in \
-                    two halves of seven bits; 0 where no two places do. At three times\n\
-                    the place of that sum less the place of the sum at a^3, and 127 more; \
-                    so it goes twice round 127.",
-                name: "RATIO",
-                element: "u16",
-                length: 2 * ROUND + 1,
-                entry: two_behind,
-                list: "ratio",
+                comment: "Three times that place, round 127.",
+                name: "CUBE",
+                element: "u8",
+                length: ROUND + 1,
+                entry: |value| (3 * place_of(value) % ROUND) as u64,
+                list: "cube",
                 line: 16,
             },
             Table {
-                comment: "The remainder of the word whose only bit is bit i.",
+                comment: "By how much one of at most two places lies behind the place of the sum of their \
+                    values at a, at three times the place of that sum less the place of\n\
+                    the sum at a^3, and 127 more; so it goes twice round 127. \
+                    254 where there is none, and so it is\nat 127, where the values 0 and 0 of no bit lead.",
+                name: "ONE",
+                element: "u8",
+                length: 2 * ROUND + 1,
+                entry: |at| behind(at)[0],
+                list: "one",
+                line: 16,
+            },
+            Table {
+                comment: "And by how much the other.",
+                name: "OTHER",
+                element: "u8",
+                length: 2 * ROUND + 1,
+                entry: |at| behind(at)[1],
+                list: "other",
+                line: 16,
+            },
+            Table {
+                comment: "A number round 127, which is a place; from 254 on it is 127, no place. It is a place and what is looked up behind it.",
+                name: "PLACE",
+                element: "u8",
+                length: ROUND + 255,
+                entry: |at| if at < NONE { at % ROUND } else { ROUND } as u64,
+                list: "place",
+                line: 16,
+            },
+            Table {
+                comment: "The remainder of the word whose only bit is bit i; 0 at 126 and 127, which no bit has.",
                 name: "COLUMNS",
                 element: "u16",
-                length: WORD_BITS as usize,
-                entry: |i| remainder(only_bit(i as u8)).into(),
+                length: ROUND + 1,
+                entry: |i| remainder(bit_at(i)).into(),
                 list: "columns",
                 line: 16,
             },
             Table {
-                comment: "The two numbers of the word whose only bit is bit i, at 2 i, the upper first.",
+                comment: "The two numbers of the word whose only bit is bit i, at 2 i, the upper first; \
+                    0 for the places 126 and 127.",
                 name: "SINGLE_BITS",
                 element: "u64",
-                length: 2 * WORD_BITS as usize,
-                entry: |at| <[u64; 2]>::from(split(only_bit((at / 2) as u8)))[at % 2],
+                length: 2 * (ROUND + 1),
+                entry: |at| <[u64; 2]>::from(split(bit_at(at / 2)))[at % 2],
                 list: "singleBits",
                 line: 4,
             },
@@ -240,10 +258,13 @@ impl Table {
     }
 }
 
-fn remainder_of_byte(at: usize) -> u64 {
-    let (place, byte) = (at / 256, at as u8);
-    // In two steps: the uppermost byte times x^16 would reach above a word.
-    parity(remainder(u128::from(byte) << (8 * place)).into()).into()
+/// The word whose only bit is bit i; 0 where there is no bit i.
+fn bit_at(i: usize) -> u128 {
+    if i < WORD_BITS as usize {
+        only_bit(i as u8)
+    } else {
+        0
+    }
 }
 
 /// How many powers the a of the field of 128 has.
@@ -269,24 +290,27 @@ fn values(at: usize) -> u64 {
         .fold(0, |sum, n| sum ^ power(3 * n) << 7 ^ power(n))
 }
 
-fn place_and_three_times(value: usize) -> u64 {
+/// What is added to a place to get none: twice round 127.
+const NONE: usize = 2 * ROUND;
+
+/// The place of the bit whose value at a is the value, 126 where no bit of a word has it; 0 for 0.
+fn place_of(value: usize) -> usize {
     // Bit i has the value a^(125 - i), and 252 is 125 round 127.
-    let place = logarithm(value as u64).map_or(126, |e| (252 - e) % ROUND);
-    ((3 * place % ROUND) << 7 | place) as u64
+    logarithm(value as u64).map_or(0, |e| (252 - e) % ROUND)
 }
 
 /// Of two bits with the values X and Y at a, and S = X + Y: x = X/S and y = Y/S have the sum 1, so
 /// X^3 + Y^3 is 1 + x + x^2 times S^3. Where x is a^u, the place of X is 127 - u behind that of S.
-fn two_behind(at: usize) -> u64 {
+/// One bit alone has the place of S, and its cube is S^3.
+fn behind(at: usize) -> [u64; 2] {
     // Three times the place of S less that of X^3 + Y^3 is 250 more than the quotient's logarithm.
     let quotient = power(at + 2 * ROUND - 250);
-    let leads = |u: usize| 1 ^ power(u) ^ power(2 * u) == quotient;
-    // One of x and y is odd: it stands on top.
-    let top = (1..ROUND).find(|&u| power(u) & 1 == 1 && leads(u));
-    top.map_or(0, |u| {
-        let other = logarithm(power(u) ^ 1).expect("x is not 1");
-        ((ROUND - u) << 7 | (ROUND - other)) as u64
-    })
+    if quotient == 1 {
+        return [0, NONE as u64];
+    }
+    let leads = |n: &usize| 1 ^ power(ROUND - n) ^ power(2 * (ROUND - n)) == quotient;
+    let mut found = (1..ROUND).filter(leads).map(|n| n as u64);
+    [(); 2].map(|()| found.next().unwrap_or(NONE as u64))
 }
 
 fn bits_of_places(at: usize) -> u64 {
@@ -345,50 +369,41 @@ mod tests {
     }
 
     #[test]
-    fn remainders_by_long_division() {
-        for (at, entry) in entries("REMAINDERS").into_iter().enumerate() {
-            let product = (at as u128 % 256) << (8 * (at / 256) + 16);
-            assert_eq!(u128::from(entry), by_long_division(product), "{at}");
-        }
-    }
-
-    #[test]
     fn columns_are_the_remainders_of_the_bits() {
-        let (remainders, bit) = (entries("REMAINDERS"), entries("SINGLE_BITS"));
+        let bit = entries("SINGLE_BITS");
         for (i, column) in entries("COLUMNS").into_iter().enumerate() {
             let word = u128::from(bit[2 * i]) << 64 | u128::from(bit[2 * i + 1]);
-            assert_eq!(word, only_bit(i as u8));
-            let bytes = (word >> 16).to_le_bytes().into_iter().take(14).enumerate();
-            let rest = bytes.fold(word as u16, |sum, (p, byte)| {
-                sum ^ remainders[256 * p + usize::from(byte)] as u16
-            });
-            assert_eq!(u64::from(rest), column);
+            assert_eq!(word, if i < 126 { 1 << (125 - i) } else { 0 });
+            assert_eq!(u128::from(column), by_long_division(word));
         }
     }
 
     #[test]
     fn flips_and_pairs_lead_back_to_their_places() {
-        let [field, log, ratio, column] = ["FIELD", "LOG", "RATIO", "COLUMNS"].map(entries);
-        // From a remainder to two places, which are one where only one bit is flipped.
+        let [field, log, cube] = ["FIELD", "LOG", "CUBE"].map(entries);
+        let [one, other, place, column] = ["ONE", "OTHER", "PLACE", "COLUMNS"].map(entries);
+        // From a remainder to two places, 127 where there is none.
         let places = |rest: u64| {
             let values = field[rest as usize % 256] ^ field[256 + rest as usize / 256];
-            let of_sum = log[values as usize % 128];
-            let of_cubes = log[values as usize / 128] % 128;
-            let behind = ratio[(of_sum / 128 + 127 - of_cubes) as usize];
-            let mut two = [behind / 128, behind % 128].map(|n| (of_sum % 128 + n) % 127);
+            let (of_sum, of_cubes) = (values as usize % 128, values as usize / 128);
+            let by = (cube[of_sum] + 127 - log[of_cubes]) as usize;
+            let mut two = [one[by], other[by]].map(|n| place[(log[of_sum] + n) as usize]);
             two.sort();
             two
         };
-        let mut patterns = 0;
-        for i in 0..column.len() {
-            assert_eq!(places(column[i]), [i as u64; 2]);
-            for j in i + 1..column.len() {
+        assert_eq!(places(0), [127; 2]);
+        let mut patterns = 1;
+        for i in 0..126 {
+            assert_eq!(places(column[i]), [i as u64, 127]);
+            for j in i + 1..126 {
                 assert_eq!(places(column[i] ^ column[j]), [i as u64, j as u64]);
                 patterns += 1;
             }
             patterns += 1;
         }
-        assert_eq!(patterns, 8_001);
+        assert_eq!(patterns, 8_002);
+        // No other remainder leads beyond a table.
+        assert!((0..65_536).all(|rest| places(rest)[1] <= 127));
     }
 
     #[test]

@@ -121,7 +121,7 @@ code-four n h e w =
     xor-zero-eq (remainder 126 (p .one)) (remainder 126 (p .other))
     (sym (remainder-xor 126 (p .one) (p .other)) ∙ ap (remainder 126) (sym (p .sum)) ∙ e) in
     let c : remainderOf (a .pattern) ≡ remainderOf (b .pattern) =
-    remainder-mask (a .pattern) ∙ ap (remainder 126) (a .bits) ∙ r ∙ sym (ap (remainder 126) (b .bits)) ∙ sym (remainder-mask (b .pattern)) in
+    remainder-mask (a .pattern) (a .is) ∙ ap (remainder 126) (a .bits) ∙ r ∙ sym (ap (remainder 126) (b .bits)) ∙ sym (remainder-mask (b .pattern) (b .is)) in
     let same : p .one ≡ p .other = sym (a .bits) ∙ ap mask (patterns-apart (a .pattern) (b .pattern) (a .is) (b .is) c) ∙ b .bits in
     p .sum ∙ ap (bitXor (p .one)) (sym same) ∙ xor-self (p .one)
 

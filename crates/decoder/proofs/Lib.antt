@@ -1,6 +1,6 @@
-pub mod Digits
 pub mod Patterns
 pub mod Distance
-pub mod Halves
+pub mod Lookups
+pub mod Rows
 pub mod Theorems
 pub mod Determined

@@ -34,7 +34,7 @@ pub mends-two : MendsTwo
 mends-two c w C h d =
     let p = light-pattern (bitXor w c) (xor-lt 126 w c h (code-lt C)) (omega (arith, distance-weight w c)) in
     let r : remainderOf (p .pattern) ≡ remainder 126 w =
-    remainder-mask (p .pattern) ∙ ap (remainder 126) (p .bits ∙ xor-comm w c) ∙ remainder-code-xor w C in
+    remainder-mask (p .pattern) (p .is) ∙ ap (remainder 126) (p .bits ∙ xor-comm w c) ∙ remainder-code-xor w C in
     let m : mend w ≡ p .pattern = answers-unique (remainder 126 w) (mend w) (p .pattern) (mend-answers w) (inl (p .is, r)) in (
       ap (mended w) m ∙ mended-mask w (p .pattern) ∙ ap (bitXor w) (p .bits) ∙ xor-cancel w c,
       ap flagOf m ∙ sym (mask-weight (p .pattern) (p .is)) ∙ ap (weight 126) (p .bits) ∙ sym (distance-weight w c),
@@ -44,7 +44,7 @@ mends-two c w C h d =
 mended-code : (w : ℕ) (m : Mend) → w < 2 ^ 126 → Pattern m → remainderOf m ≡ remainder 126 w → CodeWord (mended w m) × (distance w (mended w m) ≡ flagOf m)
 mended-code w m h P e = (
   remainder-code (subst (λ (x : ℕ). x < 2 ^ 126) (sym (mended-mask w m)) (xor-lt 126 w (mask m) h (mask-lt m P)))
-      (ap (remainder 126) (mended-mask w m) ∙ remainder-xor 126 w (mask m) ∙ ap (bitXor (remainder 126 w)) (sym (remainder-mask m) ∙ e)
+      (ap (remainder 126) (mended-mask w m) ∙ remainder-xor 126 w (mask m) ∙ ap (bitXor (remainder 126 w)) (sym (remainder-mask m P) ∙ e)
       ∙ xor-self (remainder 126 w)),
   distance-weight w (mended w m) ∙ ap (weight 126) (ap (bitXor w) (mended-mask w m) ∙ xor-cancel w (mask m)) ∙ mask-weight m P,
 )

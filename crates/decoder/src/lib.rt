@@ -1,14 +1,14 @@
 // A word received: at most two bits are mended, or it is flagged; one word, and the 384 words of a frame in one call.
 // A word is two numbers: hi has bits 0 to 61 in its 62 low bits, lo has bits 62 to 125. Bits 0 to 109 are the information, the rest is parity.
 ghost use mathlib.Core.Path.{_≡_};
-ghost use Prim.Native.Nat.{_<_, _≤_, _+_, _*_, _%_, _^_};
+ghost use Prim.Native.Nat.{ℕ, _<_, _+_, _*_, _/_, _%_, _^_};
 ghost use lib.ListN.{getD, length};
+ghost use Rattle.bits.specs.definitions.Bits.{tabulate};
 ghost use Rattle.bits.specs.definitions.Words.{wordOf};
-ghost use Rattle.bch.specs.definitions.Code.{feedOf, remainder, flipped};
-ghost use Rattle.decoder_tables.specs.private.Tables.{IsRemainders, IsColumns, IsSingleBits, Finds, risingOf, roundOf, valuesOf, locatedPair};
-ghost use Rattle.decoder.specs.definitions.Mend.{mended, flagOf};
+ghost use Rattle.decoder_tables.specs.private.Tables.{IsColumns, IsSingleBits, Finds, risingOf, valuesOf, locatedPair};
+ghost use Rattle.decoder.specs.definitions.Mend.{mend, flagOf};
 ghost use Rattle.decoder.specs.definitions.Word.{decoded, mendedFrame, flagsOf};
-ghost use Rattle.decoder.specs.private.Answer.{Answers, Within, confirmed};
+ghost use Rattle.decoder.specs.private.Answer.{Tells, Measured, confirmed, countOf, patternOf, flippedAt, mendedRow, flagsRow};
 
 // What decoding flipped: no bit, one, two in rising order; or no code word lies within two bits.
 pub enum Mend {
@@ -31,6 +31,12 @@ struct Word {
     lo: u64,
 }
 
+// The places that are flipped, in any order, 127 where there is none; and the flag byte.
+struct Found {
+    places: decoder_tables::Pair,
+    flag: u8,
+}
+
 // Entry k of a table.
 fn entry(t: &[u16], k: u64) -> u64
     requires { ⌜ k < length (now t) ⌝ }
@@ -40,31 +46,13 @@ fn entry(t: &[u16], k: u64) -> u64
     bits::wide16(t[i])
 }
 
-// What digit k of a word, counted by 16 bits above the lowest, adds to its remainder: w's two low bytes are looked up, each at its place.
-fn digit(t: &[u16; 3584], k: u64, w: u64) -> u64
-    requires { ⌜ IsRemainders (now t) ⌝ }
-    requires { ⌜ k < 7 ⌝ }
-    ensures { λ v. ⌜ (v ≡ feedOf (w % 65536) (16 * k + 16) 0) × (v < 65536) ⌝ }
+// Entry k of a table of bytes.
+fn small_entry(t: &[u8], k: u64) -> u64
+    requires { ⌜ k < length (now t) ⌝ }
+    ensures { λ v. ⌜ (v ≡ getD (now (t .entry)) k 0) × (v < 256) ⌝ }
 {
-    let a = entry(t, 512 * k + w % 256);
-    let b = entry(t, 512 * k + 256 + w / 256 % 256);
-    a ^ b
-}
-
-// The remainder of a word: 0 exactly at the code words. The lowest digit is its own remainder.
-fn syndrome(t: &[u16; 3584], hi: u64, lo: u64) -> u64
-    requires { ⌜ IsRemainders (now t) ⌝ }
-    requires { ⌜ hi < 2 ^ 62 ⌝ }
-    ensures { λ v. ⌜ (v ≡ remainder 126 (hi * 2 ^ 64 + lo)) × (v < 65536) ⌝ }
-{
-    let a = digit(t, 0, lo / 65536);
-    let b = digit(t, 1, lo / bits::TWO_32);
-    let c = digit(t, 2, lo / bits::TWO_48);
-    let d = digit(t, 3, hi);
-    let e = digit(t, 4, hi / 65536);
-    let f = digit(t, 5, hi / bits::TWO_32);
-    let g = digit(t, 6, hi / bits::TWO_48);
-    lo % 65536 ^ a ^ b ^ c ^ d ^ e ^ f ^ g
+    let i = k as usize;
+    bits::wide8(t[i])
 }
 
 // The values of a remainder at two elements of the field.
@@ -77,140 +65,130 @@ fn values(field: &[u16; 512], s: u64) -> u64
     a ^ b
 }
 
-// A number below 254 round 127.
-fn round(x: u64) -> u64
-    ensures { λ r. ⌜ r ≡ roundOf x ⌝ }
+// The places of the bits of which s is the remainder; any two where there are none. No branch hangs on s.
+fn located(
+    field: &[u16; 512],
+    log: &[u8; 128],
+    cube: &[u8; 128],
+    one: &[u8; 255],
+    other: &[u8; 255],
+    place: &[u8; 382],
+    s: u64,
+) -> decoder_tables::Pair
+    requires { ⌜ Finds (now field) (now log) (now cube) (now one) (now other) (now place) ⌝ }
+    requires { ⌜ s < 65536 ⌝ }
+    ensures { λ p. ⌜ p ≡ locatedPair (now (field .entry)) (now (log .entry)) (now (cube .entry)) (now (one .entry)) (now (other .entry))
+        (now (place .entry)) s ⌝ }
 {
-    if x < 127 { x } else { x - 127 }
-}
-
-// Two places in rising order.
-fn rising(x: u64, y: u64) -> decoder_tables::Pair
-    ensures { λ r. ⌜ r ≡ risingOf x y ⌝ }
-{
-    if x <= y {
-        decoder_tables::Pair { low: x, high: y }
-    } else {
-        decoder_tables::Pair { low: y, high: x }
+    let v = values(field, s);
+    let x = small_entry(log, v % 128);
+    let c = small_entry(cube, v % 128);
+    let y = small_entry(log, v / 128 % 128);
+    let q = c + 127 - y;
+    let m = small_entry(one, q);
+    let n = small_entry(other, q);
+    decoder_tables::Pair {
+        first: small_entry(place, x + m),
+        second: small_entry(place, x + n),
     }
 }
 
-// The places of the one or two bits of which s is the remainder; any two numbers where there are none.
-fn candidate(
-    field: &[u16; 512],
-    log: &[u16; 128],
-    ratio: &[u16; 255],
-    s: u64,
-) -> decoder_tables::Pair
-    requires { ⌜ s < 65536 ⌝ }
-    ensures { λ r. ⌜ r ≡ locatedPair (now (field .entry)) (now (log .entry)) (now (ratio .entry)) s ⌝ }
+// 1 for the place of a bit, 0 for none.
+fn count(i: u64) -> u8
+    ensures { λ r. ⌜ (r ≡ countOf i) × (r < 2) ⌝ }
 {
-    let v = values(field, s);
-    let x = entry(log, v % 128);
-    let y = entry(log, v / 128 % 128);
-    let q = entry(ratio, x / 128 % 128 + 127 - y % 128);
-    let l = x % 128;
-    let one = round(l + q % 128);
-    let other = round(l + q / 128);
-    rising(one, other)
+    if i < 126 { 1 } else { 0 }
 }
 
 // What was looked up is believed only if its bits have the remainder s.
-fn confirm(t: &[u16; 126], s: u64, p: decoder_tables::Pair) -> Mend
-    requires { ⌜ IsColumns (now t) ⌝ }
-    requires { ⌜ p .low ≤ p .high ⌝ }
-    ensures { λ m. ⌜ m ≡ confirmed s p ⌝ }
+fn confirm(column: &[u16; 128], s: u64, p: decoder_tables::Pair) -> Found
+    requires { ⌜ IsColumns (now column) ⌝ }
+    requires { ⌜ (p .first < 128) × (p .second < 128) ⌝ }
+    ensures { λ f. ⌜ f ≡ confirmed s p ⌝ }
 {
-    let low = p.low;
-    let high = p.high;
-    if high >= 126 {
-        return Mend::Flagged;
-    }
-    if low == high {
-        let own = entry(t, low);
-        if own == s {
-            return Mend::One(low);
-        }
-        return Mend::Flagged;
-    }
-    let sum = entry(t, low) ^ entry(t, high);
+    let first = p.first;
+    let second = p.second;
+    let sum = entry(column, first) ^ entry(column, second);
+    let bits = count(first) + count(second);
     if sum == s {
-        return Mend::Two(low, high);
+        return Found {
+            places: p,
+            flag: bits,
+        };
     }
-    Mend::Flagged
+    Found {
+        places: decoder_tables::Pair {
+            first: 127,
+            second: 127,
+        },
+        flag: 3,
+    }
 }
 
-// The bits of which s is the remainder.
-fn find(field: &[u16; 512], log: &[u16; 128], ratio: &[u16; 255], t: &[u16; 126], s: u64) -> Mend
-    requires { ⌜ Finds (now field) (now log) (now ratio) ⌝ }
-    requires { ⌜ IsColumns (now t) ⌝ }
+// What is flipped in a word of the remainder s.
+fn find(
+    field: &[u16; 512],
+    log: &[u8; 128],
+    cube: &[u8; 128],
+    one: &[u8; 255],
+    other: &[u8; 255],
+    place: &[u8; 382],
+    column: &[u16; 128],
+    s: u64,
+) -> Found
+    requires { ⌜ Finds (now field) (now log) (now cube) (now one) (now other) (now place) ⌝ }
+    requires { ⌜ IsColumns (now column) ⌝ }
     requires { ⌜ s < 65536 ⌝ }
-    ensures { λ m. ⌜ Answers s m ⌝ }
+    ensures { λ f. ⌜ Tells (mend s) f ⌝ }
 {
-    if s == 0 {
+    let p = located(field, log, cube, one, other, place, s);
+    confirm(column, s, p)
+}
+
+// The word with the bits at two places flipped, by look-ups: places are any, so that a branch on them would be guessed wrong every other time.
+fn flip(bit: &[u64; 256], hi: u64, lo: u64, p: decoder_tables::Pair) -> Word
+    requires { ⌜ IsSingleBits (now bit) ⌝ }
+    requires { ⌜ (p .first < 128) × (p .second < 128) ⌝ }
+    ensures { λ v. ⌜ (v .hi ≡ flippedAt (hi * 2 ^ 64 + lo) p / 2 ^ 64) × (v .lo ≡ flippedAt (hi * 2 ^ 64 + lo) p % 2 ^ 64) ⌝ }
+{
+    let k = (2 * p.first) as usize;
+    let l = (2 * p.second) as usize;
+    Word {
+        hi: hi ^ bit[k] ^ bit[l],
+        lo: lo ^ bit[k + 1] ^ bit[l + 1],
+    }
+}
+
+// Two places in rising order.
+fn rising(p: decoder_tables::Pair) -> decoder_tables::Pair
+    ensures { λ r. ⌜ r ≡ risingOf p ⌝ }
+{
+    if p.first <= p.second {
+        p
+    } else {
+        decoder_tables::Pair {
+            first: p.second,
+            second: p.first,
+        }
+    }
+}
+
+// The pattern that was found.
+fn pattern(f: Found) -> Mend
+    ensures { λ m. ⌜ m ≡ patternOf f ⌝ }
+{
+    let places = f.places;
+    let p = rising(places);
+    if f.flag == 0 {
         return Mend::Clean;
     }
-    let p = candidate(field, log, ratio, s);
-    confirm(t, s, p)
-}
-
-// The word with bit i flipped, by a look-up: places are any, so that a branch on them would be guessed wrong every other time.
-fn flip(bit: &[u64; 252], w: Word, i: u64) -> Word
-    requires { ⌜ IsSingleBits (now bit) ⌝ }
-    requires { ⌜ (w .hi < 2 ^ 62) × (i < 126) ⌝ }
-    ensures { λ v. ⌜ (v .hi * 2 ^ 64 + v .lo ≡ flipped i (w .hi * 2 ^ 64 + w .lo)) × (v .hi < 2 ^ 62) ⌝ }
-{
-    let k = (2 * i) as usize;
-    Word {
-        hi: w.hi ^ bit[k],
-        lo: w.lo ^ bit[k + 1],
+    if f.flag == 1 {
+        return Mend::One(p.first);
     }
-}
-
-// The word with the bits of a pattern flipped.
-fn mended(bit: &[u64; 252], w: Word, m: Mend) -> Word
-    requires { ⌜ IsSingleBits (now bit) ⌝ }
-    requires { ⌜ w .hi < 2 ^ 62 ⌝ }
-    requires { ⌜ Within m ⌝ }
-    ensures { λ v. ⌜ v .hi * 2 ^ 64 + v .lo ≡ mended (w .hi * 2 ^ 64 + w .lo) m ⌝ }
-{
-    match m {
-        Mend::Clean => w,
-        Mend::One(i) => flip(bit, w, i),
-        Mend::Two(i, j) => {
-            let x = flip(bit, w, i);
-            flip(bit, x, j)
-        }
-        Mend::Flagged => w,
+    if f.flag == 2 {
+        return Mend::Two(p.first, p.second);
     }
-}
-
-// What a word decodes to, by the tables it is lent.
-fn decode_word(
-    remainders: &[u16; 3584],
-    field: &[u16; 512],
-    log: &[u16; 128],
-    ratio: &[u16; 255],
-    column: &[u16; 126],
-    bit: &[u64; 252],
-    hi: u64,
-    lo: u64,
-) -> Decoded
-    requires { ⌜ IsRemainders (now remainders) ⌝ }
-    requires { ⌜ Finds (now field) (now log) (now ratio) ⌝ }
-    requires { ⌜ IsColumns (now column) ⌝ }
-    requires { ⌜ IsSingleBits (now bit) ⌝ }
-    requires { ⌜ hi < 2 ^ 62 ⌝ }
-    ensures { λ r. ⌜ r ≡ decoded (hi * 2 ^ 64 + lo) ⌝ }
-{
-    let s = syndrome(remainders, hi, lo);
-    let m = find(field, log, ratio, column, s);
-    let w = mended(bit, Word { hi, lo }, m);
-    Decoded {
-        hi: w.hi,
-        lo: w.lo,
-        mend: m,
-    }
+    Mend::Flagged
 }
 
 // The flag byte: 0, 1 or 2 bits mended, 3 flagged.
@@ -229,85 +207,209 @@ pub fn flag(m: Mend) -> u8
 pub fn decode(hi: u64, lo: u64) -> Decoded
     ensures { λ r. ⌜ r ≡ decoded (wordOf hi lo) ⌝ }
 {
-    let remainders = decoder_tables::remainders();
-    let places = decoder_tables::places();
-    let field = places.field;
-    let log = places.log;
-    let ratio = places.ratio;
+    let tables = decoder_tables::places();
+    let field = tables.field;
+    let log = tables.log;
+    let cube = tables.cube;
+    let one = tables.one;
+    let other = tables.other;
+    let place = tables.place;
     let column = decoder_tables::columns();
     let bit = decoder_tables::single_bits();
-    decode_word(
-        &remainders,
-        &field,
-        &log,
-        &ratio,
-        &column,
-        &bit,
-        hi % bits::TWO_62,
-        lo,
-    )
+    let s = bits::wide16(bch::word_remainder(hi, lo));
+    let f = find(&field, &log, &cube, &one, &other, &place, &column, s);
+    let p = f.places;
+    let w = flip(&bit, hi % bits::TWO_62, lo, p);
+    Decoded {
+        hi: w.hi,
+        lo: w.lo,
+        mend: pattern(f),
+    }
 }
 
-// Each word of a frame becomes what it decodes to, and gets its flag byte.
-fn decode_words(
-    remainders: &[u16; 3584],
-    field: &[u16; 512],
-    log: &[u16; 128],
-    ratio: &[u16; 255],
-    column: &[u16; 126],
-    bit: &[u64; 252],
-    words: &mut [u64],
-    flags: &mut [u8],
-)
-    requires { ⌜ IsRemainders (now remainders) ⌝ }
-    requires { ⌜ Finds (now field) (now log) (now ratio) ⌝ }
-    requires { ⌜ IsColumns (now column) ⌝ }
-    requires { ⌜ IsSingleBits (now bit) ⌝ }
-    requires { ⌜ (length (now words) ≡ 768) × (length (now flags) ≡ 384) ⌝ }
-    ensures { λ _. ⌜ (now (words .exit) ≡ mendedFrame (now (words .entry))) × (now (flags .exit) ≡ flagsOf (now (words .entry))) ⌝ }
+// 0 only where every remainder is 0.
+fn any(rest: &[u16]) -> u16
+    ensures { λ r. ⌜ (r ≡ 0 → (k : ℕ) → k < length (now (rest .entry)) → getD (now (rest .entry)) k 0 ≡ 0) ⌝ }
+{
+    let mut all: u16 = 0;
+    let mut i: usize = 0;
+    while i < rest.len() {
+        all = all | rest[i];
+        i += 1;
+    }
+    all
+}
+
+// The flags of clean words.
+fn clear(flags: &mut [u8])
+    ensures { λ _. ⌜ now (flags .exit) ≡ tabulate (length (now (flags .entry))) (λ i. 0) ⌝ }
 {
     let mut i: usize = 0;
-    while i < 384 {
-        let at = 2 * i;
-        let hi = words[at];
-        let lo = words[at + 1];
-        let d = decode_word(
-            remainders,
-            field,
-            log,
-            ratio,
-            column,
-            bit,
-            hi % bits::TWO_62,
-            lo,
-        );
-        words[at] = d.hi;
-        words[at + 1] = d.lo;
-        let m = d.mend;
-        flags[i] = flag(m);
+    while i < flags.len() {
+        flags[i] = 0;
         i += 1;
     }
 }
 
-// The same over the frame's arrays, with the tables copied once and lent.
-pub fn decode_frame(words: &mut [u64; 768], flags: &mut [u8; 384])
-    ensures { λ _. ⌜ (now (words .exit) ≡ mendedFrame (now (words .entry))) × (now (flags .exit) ≡ flagsOf (now (words .entry))) ⌝ }
+// Each of eight words becomes what it decodes to, and gets its flag byte.
+fn mend_eight(
+    field: &[u16; 512],
+    log: &[u8; 128],
+    cube: &[u8; 128],
+    one: &[u8; 255],
+    other: &[u8; 255],
+    place: &[u8; 382],
+    column: &[u16; 128],
+    bit: &[u64; 256],
+    rest: &[u16],
+    words: &mut [u64],
+    flags: &mut [u8],
+)
+    requires { ⌜ Finds (now field) (now log) (now cube) (now one) (now other) (now place) ⌝ }
+    requires { ⌜ IsColumns (now column) ⌝ }
+    requires { ⌜ IsSingleBits (now bit) ⌝ }
+    requires { ⌜ (length (now rest) ≡ 8) × (length (now words) ≡ 16) × (length (now flags) ≡ 8) ⌝ }
+    requires { ⌜ Measured 8 (now words) (now rest) ⌝ }
+    ensures { λ _. ⌜ (now (words .exit) ≡ mendedRow 8 (now (words .entry))) × (now (flags .exit) ≡ flagsRow 8 (now (words .entry))) ⌝ }
 {
-    let remainders = decoder_tables::remainders();
-    let places = decoder_tables::places();
-    let field = places.field;
-    let log = places.log;
-    let ratio = places.ratio;
+    let mut i: usize = 0;
+    while i < 8 {
+        let at = 2 * i;
+        let hi = words[at];
+        let lo = words[at + 1];
+        let s = bits::wide16(rest[i]);
+        let f = find(field, log, cube, one, other, place, column, s);
+        let p = f.places;
+        let w = flip(bit, hi, lo, p);
+        words[at] = w.hi;
+        words[at + 1] = w.lo;
+        flags[i] = f.flag;
+        i += 1;
+    }
+}
+
+// The same of eight words that may all be code words: the one branch, which is guessed right while the line is good.
+fn mend_group(
+    field: &[u16; 512],
+    log: &[u8; 128],
+    cube: &[u8; 128],
+    one: &[u8; 255],
+    other: &[u8; 255],
+    place: &[u8; 382],
+    column: &[u16; 128],
+    bit: &[u64; 256],
+    rest: &[u16],
+    words: &mut [u64],
+    flags: &mut [u8],
+)
+    requires { ⌜ Finds (now field) (now log) (now cube) (now one) (now other) (now place) ⌝ }
+    requires { ⌜ IsColumns (now column) ⌝ }
+    requires { ⌜ IsSingleBits (now bit) ⌝ }
+    requires { ⌜ (length (now rest) ≡ 8) × (length (now words) ≡ 16) × (length (now flags) ≡ 8) ⌝ }
+    requires { ⌜ Measured 8 (now words) (now rest) ⌝ }
+    ensures { λ _. ⌜ (now (words .exit) ≡ mendedRow 8 (now (words .entry))) × (now (flags .exit) ≡ flagsRow 8 (now (words .entry))) ⌝ }
+{
+    if any(rest) == 0 {
+        clear(flags);
+    } else {
+        mend_eight(
+            field,
+            log,
+            cube,
+            one,
+            other,
+            place,
+            column,
+            bit,
+            rest,
+            words,
+            flags,
+        );
+    }
+}
+
+// A frame's words, eight at a time.
+fn mend_words(
+    field: &[u16; 512],
+    log: &[u8; 128],
+    cube: &[u8; 128],
+    one: &[u8; 255],
+    other: &[u8; 255],
+    place: &[u8; 382],
+    column: &[u16; 128],
+    bit: &[u64; 256],
+    rest: &[u16],
+    words: &mut [u64],
+    flags: &mut [u8],
+)
+    requires { ⌜ Finds (now field) (now log) (now cube) (now one) (now other) (now place) ⌝ }
+    requires { ⌜ IsColumns (now column) ⌝ }
+    requires { ⌜ IsSingleBits (now bit) ⌝ }
+    requires { ⌜ (length (now rest) ≡ 384) × (length (now words) ≡ 768) × (length (now flags) ≡ 384) ⌝ }
+    requires { ⌜ Measured 384 (now words) (now rest) ⌝ }
+    ensures { λ _. ⌜ (now (words .exit) ≡ mendedRow 384 (now (words .entry))) × (now (flags .exit) ≡ flagsRow 384 (now (words .entry))) ⌝ }
+{
+    let mut g: usize = 0;
+    while g < 384 {
+        let e = g + 8;
+        let from = 2 * g;
+        let to = 2 * e;
+        mend_group(
+            field,
+            log,
+            cube,
+            one,
+            other,
+            place,
+            column,
+            bit,
+            &rest[g..e],
+            &mut words[from..to],
+            &mut flags[g..e],
+        );
+        g = e;
+    }
+}
+
+// The tables are copied here and not above, so that a frame of code words does not pay for them.
+fn mend_frame(rest: &[u16], words: &mut [u64], flags: &mut [u8])
+    requires { ⌜ (length (now rest) ≡ 384) × (length (now words) ≡ 768) × (length (now flags) ≡ 384) ⌝ }
+    requires { ⌜ Measured 384 (now words) (now rest) ⌝ }
+    ensures { λ _. ⌜ (now (words .exit) ≡ mendedRow 384 (now (words .entry))) × (now (flags .exit) ≡ flagsRow 384 (now (words .entry))) ⌝ }
+{
+    let tables = decoder_tables::places();
+    let field = tables.field;
+    let log = tables.log;
+    let cube = tables.cube;
+    let one = tables.one;
+    let other = tables.other;
+    let place = tables.place;
     let column = decoder_tables::columns();
     let bit = decoder_tables::single_bits();
-    decode_words(
-        &remainders,
+    mend_words(
         &field,
         &log,
-        &ratio,
+        &cube,
+        &one,
+        &other,
+        &place,
         &column,
         &bit,
+        rest,
         words,
         flags,
     );
+}
+
+// Each word of a frame becomes what it decodes to, and gets its flag byte. Where all are code words, as on a good line, there is nothing to look up.
+pub fn decode_frame(words: &mut [u64; 768], flags: &mut [u8; 384])
+    ensures { λ _. ⌜ (now (words .exit) ≡ mendedFrame (now (words .entry))) × (now (flags .exit) ≡ flagsOf (now (words .entry))) ⌝ }
+{
+    let mut rest = [0u16; 384];
+    bch::remainders(words, &mut rest);
+    if any(&rest) == 0 {
+        clear(flags);
+    } else {
+        mend_frame(&rest, words, flags);
+    }
 }

@@ -1,13 +1,20 @@
--- What the decoder's own functions promise one another about remainders. No promise to a caller rests on a definition here.
+-- What the decoder's own functions promise one another about remainders, places and rows. No promise to a caller rests on a definition here.
 -- Assumes nothing.
 use mathlib.Core.Path.{_≡_}
 use mathlib.Core.Logic.{_⊎_}
 use mathlib.Core.Bool.{cond}
-use Prim.Native.Nat.{ℕ, _<_}
+use mathlib.Core.List.{List}
+use Prim.Native.Nat.{ℕ, _+_, _*_, _^_, _<_}
 use lib.Bits.{bitXor}
 use lib.Dec.{eqb, ltb}
-use Rattle.decoder_tables.specs.private.Tables.{column}
+use lib.ListN.{getD}
+use Rattle.bits.specs.definitions.Bits.{tabulate}
+use Rattle.bits.specs.definitions.Words.{rowOf}
+use Rattle.bch.specs.definitions.Code.{remainder}
+use Rattle.decoder_tables.specs.private.Tables.{single, column, risingOf}
 use Rattle.decoder_tables.specs.declared.Pair.{Pair}
+use Rattle.decoder.specs.definitions.Mend.{mend, mended, flagOf}
+use Rattle.decoder.specs.declared.Found.{Found}
 use Rattle.decoder.specs.declared.Mend.{Mend}
 use Rattle.decoder.specs.declared.Mend.the-variants.{Clean, One, Two, Flagged}
 
@@ -29,18 +36,54 @@ remainderOf Flagged = 0
 abbrev pub Answers : ℕ → Mend → Type 0
 Answers s m = (Pattern m × (remainderOf m ≡ s)) ⊎ ((m ≡ Flagged) × ((p : Mend) → Pattern p → remainderOf p ≡ s → ⊥))
 
--- the places of m, if it has any, are places of a word
-unfoldable pub Within : Mend → Type 0
-Within Clean = Unit
-Within (One i) = i < 126
-Within (Two i j) = (i < 126) × (j < 126)
-Within Flagged = Unit
+-- the places of the bits that are flipped, 127 where there is none
+unfoldable pub placesOf : Mend → Pair
+placesOf Clean = record { first = 127; second = 127 }
+placesOf (One i) = record { first = i; second = 127 }
+placesOf (Two i j) = record { first = i; second = j }
+placesOf Flagged = record { first = 127; second = 127 }
 
--- a pair of places is believed only if it has the remainder s
-unfoldable pub confirmed : ℕ → Pair → Mend
+-- whether a place is a bit's
+unfoldable pub countOf : ℕ → ℕ
+countOf i = cond (ltb i 126) 1 0
+
+-- two places are believed only if their bits have the remainder s; then the flag counts them
+unfoldable pub confirmed : ℕ → Pair → Found
 confirmed s p =
-    cond (ltb (p .high) 126)
-    (cond (eqb (p .low) (p .high))
-    (cond (eqb (column (p .low)) s) (One (p .low)) Flagged)
-    (cond (eqb (bitXor (column (p .low)) (column (p .high))) s) (Two (p .low) (p .high)) Flagged))
-    Flagged
+    cond (eqb (bitXor (column (p .first)) (column (p .second))) s)
+    (record { places = p; flag = countOf (p .first) + countOf (p .second) })
+    (record { places = record { first = 127; second = 127 }; flag = 3 })
+
+-- what was found is m: its places, in any order, and its flag
+pub record Tells (m : Mend) (f : Found) : Type 0 where
+  pub places : risingOf (f .places) ≡ placesOf m
+  pub flag : f .flag ≡ flagOf m
+  pub within : (f .places .first < 128) × (f .places .second < 128)
+
+-- and m from it
+unfoldable pub patternOf : Found → Mend
+patternOf f =
+    cond (eqb (f .flag) 0) Clean
+    (cond (eqb (f .flag) 1) (One (risingOf (f .places) .first))
+    (cond (eqb (f .flag) 2) (Two (risingOf (f .places) .first) (risingOf (f .places) .second))
+    Flagged))
+
+-- the word with the bits at two places flipped
+abbrev pub flippedAt : ℕ → Pair → ℕ
+flippedAt w p = bitXor w (bitXor (single (p .first)) (single (p .second)))
+
+-- word i of a row of numbers above whose words nothing stands
+unfoldable pub plainAt : List ℕ → ℕ → ℕ
+plainAt s i = getD s (2 * i) 0 * 2 ^ 64 + getD s (2 * i + 1) 0
+
+-- rest has the remainders of the n words of s
+pub record Measured (n : ℕ) (s rest : List ℕ) : Type 0 where
+  pub remains : (i : ℕ) → i < n → getD rest i 0 ≡ remainder 126 (plainAt s i)
+
+-- n words as they are passed on
+abbrev pub mendedRow : ℕ → List ℕ → List ℕ
+mendedRow n s = rowOf n (λ i. mended (plainAt s i) (mend (plainAt s i)))
+
+-- and their flag bytes
+abbrev pub flagsRow : ℕ → List ℕ → List ℕ
+flagsRow n s = tabulate n (λ i. flagOf (mend (plainAt s i)))
