@@ -2,13 +2,13 @@
 -- Assumes nothing.
 use mathlib.Core.Path.{_≡_, refl, sym, ap, _∙_}
 use mathlib.Core.Bool.{Bool, true, false, cond}
-use mathlib.Core.List.{List, _++_}
+use mathlib.Core.List.{List, _++_, append-nil}
 use Prim.Native.Nat.{ℕ, _+_, _-_, _*_, _/_, _%_, _<_, _≤_, zero-le}
 use native.Mathlib.Nat.{lt-of-lt-of-le}
 use native.Mathlib.Decide.{ℕ-discrete, decLt}
 use native.Mathlib.Omega.{arith}
 use lib.Dec.{ltb}
-use lib.ListN.{getD, length, take, drop, length-append, length-take, length-drop, List·getD-append}
+use lib.ListN.{getD, length, take, drop, length-append, length-take, length-drop, List·getD-append, drop-of-length-le}
 use lib.Seq.{getD-append-add, getD-take, getD-drop}
 use borrow.Author.Tests.{lt-ltb, le-ltb}
 use Rattle.bits.specs.definitions.Bits.{tabulate, copied}
@@ -161,13 +161,18 @@ lane-done {R} {z} {o₀} {o₁} {o} {p} {r} F hp l is T U =
         ∙ ap (λ (b : ℕ). getD z (blockStart p b + i % 5) 0) (sym (own-block R (i / 5) (F .other (i / 5 % 3) c b a)))
 
 -- a lane that is not reached yet has its own blocks, where the frame was copied
-pub own-lane : {f : ℕ → ℕ} (z o₀ : List ℕ) {o₁ o : List ℕ} (p e : ℕ) → o₁ ≡ copied z o₀ → Filling f 5280 o₁ o (165 * p) → length z ≡ 8160
-    → length o₀ ≡ 5280 → (p < 32) × (e ≡ 165 * p + 165) → take (e - 165 * p) (drop (165 * p) o) ≡ tabulate 165 (λ i. getD z (165 * p + i) 0)
-unfolding copied
-own-lane {f} z o₀ {o₁} {o} p e is F lz lo h =
+pub own-lane : {f : ℕ → ℕ} (z : List ℕ) {o₀ o : List ℕ} (p e : ℕ) → o₀ ≡ take 5280 z → Filling f 5280 o₀ o (165 * p)
+    → (p < 32) × (e ≡ 165 * p + 165) → take (e - 165 * p) (drop (165 * p) o) ≡ tabulate 165 (λ i. getD z (165 * p + i) 0)
+own-lane {f} z {o₀} {o} p e is F h =
     is-tabulate 0 (take (e - 165 * p) (drop (165 * p) o)) 165 _ (simp (length-take, length-drop) (omega (arith, F .long)))
     (λ i l.
     let k : ℕ = 165 * p + i in
-    let m : k < length (take (length o₀) z) = rw length-take (omega arith) in
     getD-take (e - 165 * p) (drop (165 * p) o) i 0 (omega arith) ∙ getD-drop (165 * p) o i 0 ∙ filling-rest f k 0 F (omega arith)
-    ∙ ap (λ (s : List ℕ). getD s k 0) is ∙ List·getD-append (take (length o₀) z) (drop (length z) o₀) 0 k m ∙ getD-take (length o₀) z k 0 (omega arith))
+    ∙ ap (λ (s : List ℕ). getD s k 0) is ∙ getD-take 5280 z k 0 (omega arith))
+
+-- a frame copied from the front of a longer buffer
+pub copied-front : (z o₀ : List ℕ) {o : List ℕ} → o ≡ copied z o₀ → length z ≡ 8160 → length o₀ ≡ 5280 → o ≡ take 5280 z
+unfolding copied
+copied-front z o₀ {o} is lz lo =
+    let none : length o₀ ≤ length z = omega arith in
+    is ∙ ap (λ (l : List ℕ). take (length o₀) z ++ l) (drop-of-length-le o₀ none) ∙ append-nil (take (length o₀) z) ∙ ap (λ (n : ℕ). take n z) lo

@@ -1,17 +1,22 @@
 -- `lanes::lanes_back` meets its contract: `deinterleave-law`. Assumes nothing.
 use native.Mathlib.Omega.{arith}
-use borrow.Author.Needs.{needs}
 use Rattle.lanes.proofs.Entries.{is-masks}
 use Rattle.lanes.proofs.Frames.{deinterleave-law}
+use Rattle.lanes.proofs.Turns.{copied-front}
 use Rattle.lanes.proofs.lanes_back.Statement.{statement}
 use Rattle.lanes.proofs.lanes_back.Tie as tie
+
+lanes-out-requires : tie.Need-lanes-out-requires
+lanes-out-requires c κs =
+    let copy = c .before .before .before in
+    (omega arith, copied-front _ _ (copy .copy2 .ensures) (omega arith) (omega arith))
 
 returns : tie.Need-returns
 returns c =
     let permute = c .before .before in
     let kept = permute .before .before .before .before .before .before in
     let out = kept .before .before .before .before in
-    let put = out .before .before .before .before in
+    let put = out .before .before .before .before .before .before .before .before in
     let copy = put .before .before .before .before in
     let start = copy .before .before .before .before .before in
     let a = start .args in
@@ -29,7 +34,10 @@ lanes-back-spec =
     (λ c κs. omega arith)
     (λ c. omega arith)
     (λ c. omega arith)
-    (λ c κs. omega arith)
+    (λ c κs. tt)
+    (λ c. omega arith)
+    (λ c. omega arith)
+    lanes-out-requires
     (λ c. omega arith)
     (λ c κs. omega arith)
     (λ c. omega arith)

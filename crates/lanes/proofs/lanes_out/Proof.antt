@@ -16,24 +16,17 @@ Inv-loop sending z out₀ p₀ out p = Filling (outOf (rowsOf sending) z) 5280 o
 abbrev μ-loop : tie.MeasureT-loop
 μ-loop sending z out₀ p₀ out p = 32 - p
 
-loop-holds : tie.Need-loop-holds Inv-loop μ-loop
-loop-holds c = filling-start _ (omega arith)
-
 lane-out-requires : tie.Need-lane-out-requires Inv-loop μ-loop
 lane-out-requires c κs =
     let at = c .before .before in
-    let copy = at .before .before .before in
-    let start = copy .before .before .before .before in
-    let a = start .args in (
-      simp (length-take, length-drop) (omega arith),
-      own-lane (a .z .now) (a .out .now) (at .loop .p) _ (copy .copy .ensures) (at .loop .inv) (start .pre .0) (start .pre .1) (omega arith),
-    )
+    let start = at .before .before .before in
+    (simp (length-take, length-drop) (omega arith), own-lane (start .args .z .now) (at .loop .p) _ (start .pre .1) (at .loop .inv) (omega arith))
 
 loop-again : tie.Need-loop-again Inv-loop μ-loop
 loop-again c =
     let out = c .before .before in
     let at = out .before .before .before in
-    let a = at .before .before .before .before .before .before .before .args in
+    let a = at .before .before .before .args in
     let z = a .z .now in
     let R = rowsOf (a .sending) in
     let p = at .loop .p in
@@ -43,7 +36,7 @@ loop-again c =
 returns : tie.Need-returns Inv-loop μ-loop
 returns c = (
   filling-done _ (c .before .loop .inv) (omega arith),
-  record { byte = λ m. omega (arith, c .before .before .before .before .before .before .before .shared-slice-known .given m) },
+  record { byte = λ m. omega (arith, c .before .before .before .shared-slice-known .given m) },
 )
 
 pub lanes-out-spec : {M : Type 1} → statement M
@@ -52,8 +45,7 @@ lanes-out-spec =
     (tie.spec
     Inv-loop
     μ-loop
-    (λ c κs. tt)
-    loop-holds
+    (λ c. filling-start _ (c .before .before .pre .0 .1))
     (λ c. omega arith)
     (λ c. omega arith)
     (λ c. omega arith)
