@@ -1,7 +1,7 @@
 -- From a frame's words to its lanes: the seven numbers of a third of a lane out of its four words, the third's bytes out of the numbers, and the lanes out of
 -- the thirds. `Begun` is the invariant of a third; the measures are the numbers and the lanes that are left.
 -- Assumes nothing.
-use mathlib.Core.Path.{_≡_, refl, sym, ap, ap₂, _∙_}
+use mathlib.Core.Path.{_≡_, refl, sym, ap, ap₂, _∙_, subst}
 use mathlib.Core.List.{List, [], _∷_, _++_}
 use Prim.Native.Nat.{ℕ, _+_, _-_, _*_, _/_, _%_, _^_, _≤_, _<_}
 use native.Mathlib.Nat.{add-zero, not-suc-le-zero}
@@ -18,7 +18,7 @@ use Rattle.bits.proofs.Fields.{field-join, field-top, field-low, byte-field}
 use Rattle.bits.proofs.Filling.{Filling, filling-put, filling-done}
 use Rattle.bits.proofs.Joins.{put-byte}
 use Rattle.lane_words.specs.definitions.LaneWords.{wordLanes}
-use Rattle.lane_words.specs.private.Thirds.{numberAt, informationIn, acrossOf, thirdByte}
+use Rattle.lane_words.specs.private.Thirds.{numberAt, informationIn, acrossOf, thirdByte, laneByte}
 use Rattle.lane_words.proofs.LaneWords.{field-middle, word-middle, word-first, word-last, lanes-word}
 use Rattle.lane_words.proofs.Thirds.{join}
 
@@ -153,15 +153,24 @@ module _ {a : List ℕ} {g : ℕ} where
   pub begun-done : {k n : ℕ} {l : List ℕ} → Begun a g k n l → k ≤ n → l ≡ tabulate k (thirdByte a g)
   begun-done {k} {n} {l} B h = is-tabulate 0 l k _ (B .long) (λ c b. B .is c (omega arith))
 
--- ---- the thirds one after the other
+-- ---- the thirds of a lane, and the lanes, one after the other
 
 -- third t of lane p in its place
-pub third-step : (a : List ℕ) (t p i e : ℕ) {lanes₀ lanes part : List ℕ} → i ≡ 55 * (3 * p + t) → e ≡ i + 55 → e ≤ 5280
-    → Filling (λ m. getD a m 0) 5280 lanes₀ lanes i → part ≡ tabulate (length (take (e - i) (drop i lanes))) (thirdByte a (3 * p + t))
-    → Filling (λ m. getD a m 0) 5280 lanes₀ (take i lanes ++ (part ++ drop (e - i) (drop i lanes))) e
-third-step a t p i e {part = part} ei ee h F q =
-    filling-put (λ m. getD a m 0) e part (λ _. thirdByte a (3 * p + t)) F (omega arith) h q (λ k b. ap (λ (m : ℕ). getD a (m + k) 0) (sym ei))
+pub third-step : (a : List ℕ) (t p i : ℕ) {n : ℕ} {out₀ out part : List ℕ} → t < 3 → i ≡ 55 * t → n ≡ 165 → Filling (laneByte a p) n out₀ out i
+    → part ≡ tabulate (length (take (i + 55 - i) (drop i out))) (thirdByte a (3 * p + t))
+    → Filling (laneByte a p) n out₀ (take i out ++ (part ++ drop (i + 55 - i) (drop i out))) (i + 55)
+third-step a t p i {part = part} h ei en F q =
+    filling-put (laneByte a p) (i + 55) part (λ _. thirdByte a (3 * p + t)) F (omega arith) (omega arith) q
+    (λ k b. let place : 55 * (3 * p + t) + k ≡ 165 * p + (i + k) = omega arith in ap (λ (m : ℕ). getD a m 0) place)
+
+-- lane p in its place
+pub lane-step : (a : List ℕ) (p : ℕ) {lanes₀ lanes part : List ℕ} → p < 32 → Filling (λ m. getD a m 0) 5280 lanes₀ lanes (165 * p)
+    → part ≡ tabulate (length (take (165 * p + 165 - 165 * p) (drop (165 * p) lanes))) (laneByte a p)
+    → Filling (λ m. getD a m 0) 5280 lanes₀ (take (165 * p) lanes ++ (part ++ drop (165 * p + 165 - 165 * p) (drop (165 * p) lanes))) (165 * (p + 1))
+lane-step a p {part = part} h F q =
+    let next : 165 * p + 165 ≡ 165 * (p + 1) = omega arith in
+    subst (Filling _ 5280 _ _) next (filling-put _ (165 * p + 165) part (λ _. laneByte a p) F (omega arith) (omega arith) q (λ k b. refl))
 
 -- all of them
-pub thirds-done : {a lanes₀ lanes : List ℕ} {i : ℕ} → Filling (λ m. getD a m 0) 5280 lanes₀ lanes i → 5280 ≤ i → length a ≡ 5280 → lanes ≡ a
-thirds-done {a} F h e = filling-done _ F h ∙ sym (is-tabulate 0 a 5280 _ e (λ m b. refl))
+pub lanes-done : {a lanes₀ lanes : List ℕ} {i : ℕ} → Filling (λ m. getD a m 0) 5280 lanes₀ lanes i → 5280 ≤ i → length a ≡ 5280 → lanes ≡ a
+lanes-done {a} F h e = filling-done _ F h ∙ sym (is-tabulate 0 a 5280 _ e (λ m b. refl))

@@ -9,6 +9,8 @@ use Prim.Native.Nat.{ℕ, _+_, _-_, _*_, _/_, _%_, _^_, _<_}
 use native.Mathlib.Nat.{not-suc-le-zero}
 use native.Mathlib.Decide.{ℕ-discrete}
 use native.Mathlib.Omega.{arith}
+use mir.Syntax.{w64}
+use mir.Val.{Fits}
 use lib.Dec.{eqb}
 use lib.ListN.{length, getD, set, length-set}
 use lib.Seq.{getD-set-same, getD-set-other}
@@ -136,6 +138,13 @@ module _ {a w : List ℕ} where
           rw q (ap (λ (k : ℕ). getD w k 0) e ∙ P .lower j (omega arith) ∙ ap (λ (k : ℕ). fieldAt a k 110 * 2 ^ 16 % 2 ^ 64) f)
 
 -- ---- the words of the thirds
+
+-- word k of the four of third t is one of a lane's twelve
+pub word-lt : (t k : ℕ) → t < 3 → k < 4 → 4 * t + k < 12
+word-lt t k ht hk = omega arith
+
+pub word-fits : (t k : ℕ) → t < 3 → k < 4 → Fits w64 (4 * t + k)
+word-fits t k ht hk = record { fits = omega arith }
 
 -- the four words of third t of lane p
 pub split-law : {firsts lasts w₀ w₁ w₂ w₃ w : List ℕ} {t p n₀ n₁ n₂ n₃ n₄ n₅ z y₀ x₁ y₁ x₂ y₂ x₃ : ℕ} → t < 3 → p < 32 → length w ≡ 768

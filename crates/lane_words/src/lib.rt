@@ -6,7 +6,7 @@ ghost use lib.ListN.{length};
 ghost use Rattle.bits.specs.definitions.Bits.{tabulate, fieldAt};
 ghost use Rattle.bits.specs.private.Joins.{Put};
 ghost use Rattle.lane_words.specs.definitions.LaneWords.{laneWords, wordLanes};
-ghost use Rattle.lane_words.specs.private.Thirds.{firstAt, lastAt, withWord, Split, acrossOf, numberAt, thirdByte};
+ghost use Rattle.lane_words.specs.private.Thirds.{firstAt, lastAt, withWord, Split, acrossOf, numberAt, thirdByte, laneByte};
 
 // The eight bytes from byte o on, as a number, the last byte first: so the compiler makes one move of them.
 fn load(s: &[u8], o: usize) -> u64
@@ -185,7 +185,17 @@ fn write_third(words: &[u64], t: usize, p: usize, seven: &mut [u64; 7], out: &mu
     put(out, 47, seven[6]);
 }
 
-// Every lane's three thirds. A third's numbers are joined before one is written, so that the compiler makes one move of each.
+// The three thirds of lane p.
+fn write_lane(words: &[u64], p: usize, seven: &mut [u64; 7], out: &mut [u8])
+    requires { ⌜ (length (now words) ≡ 768) × (length (now out) ≡ 165) × (p < 32) ⌝ }
+    ensures { λ _. ⌜ now (out .exit) ≡ tabulate (length (now (out .entry))) (laneByte (wordLanes (now (words .entry))) p) ⌝ }
+{
+    write_third(words, 0, p, seven, &mut out[0..55]);
+    write_third(words, 1, p, seven, &mut out[55..110]);
+    write_third(words, 2, p, seven, &mut out[110..165]);
+}
+
+// Every lane.
 fn write_lanes(words: &[u64], lanes: &mut [u8])
     requires { ⌜ (length (now words) ≡ 768) × (length (now lanes) ≡ 5280) ⌝ }
     ensures { λ _. ⌜ now (lanes .exit) ≡ wordLanes (now (words .entry)) ⌝ }
@@ -193,13 +203,9 @@ fn write_lanes(words: &[u64], lanes: &mut [u8])
     let mut seven = [0u64; 7];
     let mut p: usize = 0;
     while p < 32 {
-        let a = 165 * p;
-        let b = a + 55;
-        let c = a + 110;
-        let e = a + 165;
-        write_third(words, 0, p, &mut seven, &mut lanes[a..b]);
-        write_third(words, 1, p, &mut seven, &mut lanes[b..c]);
-        write_third(words, 2, p, &mut seven, &mut lanes[c..e]);
+        let at = 165 * p;
+        let end = at + 165;
+        write_lane(words, p, &mut seven, &mut lanes[at..end]);
         p += 1;
     }
 }

@@ -17,7 +17,7 @@ returns c =
     let read = zeroth .before in
     let start = read .before .before .before .before .before .before .before .before .before in
     join-law (start .args .words .now) (start .args .t) (start .args .p) (start .pre .1) (start .pre .2)
-    (λ i. omega (arith, read .shared-slice-known9 .given i))
+    (λ i. read .shared-slice-known9 .given i .fits)
     (zeroth .joined .ensures) (one .across .ensures) (second .joined2 .ensures) (third .across2 .ensures) (fourth .joined3 .ensures) (fifth .across3 .ensures)
     (last .joined4 .ensures)
 

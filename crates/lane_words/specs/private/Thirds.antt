@@ -51,6 +51,9 @@ informationIn lo = lo / 2 ^ 16
 abbrev pub acrossOf : ℕ → ℕ → ℕ → ℕ
 acrossOf lo hi a = informationIn lo % 2 ^ a * 2 ^ (64 - a) + hi * 2 ^ 2 % 2 ^ 64 / 2 ^ a
 
--- byte c of third g
+-- byte c of third g, and of lane p
 abbrev pub thirdByte : List ℕ → ℕ → ℕ → ℕ
 thirdByte a g c = getD a (55 * g + c) 0
+
+abbrev pub laneByte : List ℕ → ℕ → ℕ → ℕ
+laneByte a p c = getD a (165 * p + c) 0
