@@ -143,6 +143,7 @@ module _ {a w : List ℕ} where
 pub word-lt : (t k : ℕ) → t < 3 → k < 4 → 4 * t + k < 12
 word-lt t k ht hk = omega arith
 
+-- and its number fits
 pub word-fits : (t k : ℕ) → t < 3 → k < 4 → Fits w64 (4 * t + k)
 word-fits t k ht hk = record { fits = omega arith }
 

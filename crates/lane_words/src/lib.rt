@@ -171,7 +171,8 @@ fn join_third(words: &[u64], t: usize, p: usize, seven: &mut [u64; 7])
     *seven = [n0, n1, n2, n3, n4, n5, n6];
 }
 
-// Third t of lane p: its numbers, and then their bytes, of which the last number shares its first with the sixth.
+// Third t of lane p in its 55 bytes: the last number shares a byte with the sixth. All seven are joined before one is written, so that the compiler makes one
+// move of each.
 fn write_third(words: &[u64], t: usize, p: usize, seven: &mut [u64; 7], out: &mut [u8])
     requires { ⌜ (length (now words) ≡ 768) × (length (now out) ≡ 55) × (t < 3) × (p < 32) ⌝ }
     ensures { λ _. ⌜ now (out .exit) ≡ tabulate (length (now (out .entry))) (thirdByte (wordLanes (now (words .entry))) (3 * p + t)) ⌝ }
@@ -185,7 +186,7 @@ fn write_third(words: &[u64], t: usize, p: usize, seven: &mut [u64; 7], out: &mu
     put(out, 47, seven[6]);
 }
 
-// The three thirds of lane p.
+// The three thirds of lane p, over seven numbers that are lent for each in turn.
 fn write_lane(words: &[u64], p: usize, seven: &mut [u64; 7], out: &mut [u8])
     requires { ⌜ (length (now words) ≡ 768) × (length (now out) ≡ 165) × (p < 32) ⌝ }
     ensures { λ _. ⌜ now (out .exit) ≡ tabulate (length (now (out .entry))) (laneByte (wordLanes (now (words .entry))) p) ⌝ }

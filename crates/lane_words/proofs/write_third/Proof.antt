@@ -1,5 +1,5 @@
 -- `lane_words::write_third` meets its contract: the bytes of the first j numbers are written, and at the end those of the last. Assumes nothing.
-use mathlib.Core.Path.{refl, _∙_}
+use mathlib.Core.Path.{refl}
 use Prim.Native.Nat.{_+_, _*_, _-_, _≤_}
 use native.Mathlib.Omega.{arith}
 use lib.Dec.{lit<}
@@ -34,7 +34,8 @@ returns c =
     let joined = at .before in
     let words = joined .before .before .before .before .args .words .now in
     begun-done
-    (begun-put 6 47 55 (lanes-bytes words) (joined .join-third .ensures) (lit< tt) refl (omega arith) refl (at .loop .inv .1) (last .put2 .ensures)) (omega arith)
+    (begun-put 6 47 55 (lanes-bytes words) (joined .join-third .ensures) (lit< tt) refl (omega arith) refl (at .loop .inv .1) (last .put2 .ensures))
+    (omega arith)
 
 pub write-third-spec : {M : Type 1} → statement M
 write-third-spec =
