@@ -9,6 +9,8 @@ use Prim.Native.Nat.{ℕ, _+_, _-_, _*_, _/_, _%_, _^_, _<_}
 use native.Mathlib.Nat.{not-suc-le-zero}
 use native.Mathlib.Decide.{ℕ-discrete}
 use native.Mathlib.Omega.{arith}
+use mir.Syntax.{w64}
+use mir.Val.{Fits}
 use lib.Dec.{eqb}
 use lib.ListN.{length, getD, set, length-set}
 use lib.Seq.{getD-set-same, getD-set-other}
@@ -17,26 +19,30 @@ use Rattle.bits.specs.definitions.Words.{halfOf}
 use Rattle.bits.proofs.Tabulate.{getD-tabulate, is-tabulate}
 use Rattle.bits.proofs.Fields.{field-join, field-top, field-low}
 use Rattle.lane_words.specs.definitions.LaneWords.{informationAt, laneWords}
-use Rattle.lane_words.specs.private.Thirds.{firstAt, lastAt, Numbers, withWord, wordPlace, Placed, Split}
+use Rattle.lane_words.specs.private.Thirds.{numberAt, firstAt, lastAt, Numbers, withWord, wordPlace, Placed, Split}
 use Rattle.lane_words.proofs.LaneWords.{field-middle, word-law, joined-fields}
 
 -- ---- the numbers of the thirds
 
--- number m of the first six of each begins at bit b, and the last of third g
-pub first-is : (a : List ℕ) (m b : ℕ) → b ≡ 440 * (m / 6) + 64 * (m % 6) → fieldAt a b 64 ≡ firstAt a m
-unfolding firstAt
-first-is a m b e = ap (λ (k : ℕ). fieldAt a k 64) e
+-- number j of third g begins at bit b
+pub number-is : (a : List ℕ) (g j b : ℕ) → b ≡ 440 * g + (64 * j - 8 * (j / 6)) → fieldAt a b 64 ≡ numberAt a g j
+unfolding numberAt
+number-is a g j b e = ap (λ (k : ℕ). fieldAt a k 64) e
 
-pub last-is : (a : List ℕ) (g b : ℕ) → b ≡ 440 * g + 376 → fieldAt a b 64 ≡ lastAt a g
-unfolding lastAt
-last-is a g b e = ap (λ (k : ℕ). fieldAt a k 64) e
+-- and of the first six, where they all are counted
+pub first-is : (a : List ℕ) (g j b : ℕ) → j < 6 → b ≡ 440 * g + 64 * j → fieldAt a b 64 ≡ firstAt a (6 * g + j)
+first-is a g j b h e =
+    let third : (6 * g + j) / 6 ≡ g = omega arith in
+    let place : (6 * g + j) % 6 ≡ j = omega arith in
+    rw (third, place) (number-is a g j b (omega arith))
 
 module _ {a firsts lasts : List ℕ} (N : Numbers a firsts lasts) where
-  pub first-at : (m b : ℕ) {x : ℕ} → x ≡ getD firsts m 0 → m < 576 → b ≡ 440 * (m / 6) + 64 * (m % 6) → x ≡ fieldAt a b 64
-  first-at m b e h eb = e ∙ ap (λ (s : List ℕ). getD s m 0) (N .firsts-are) ∙ getD-tabulate 576 (firstAt a) m 0 h ∙ sym (first-is a m b eb)
+  first-at : (m b : ℕ) {x : ℕ} → x ≡ getD firsts m 0 → m < 576 → b ≡ 440 * (m / 6) + 64 * (m % 6) → x ≡ fieldAt a b 64
+  first-at m b e h eb =
+      e ∙ ap (λ (s : List ℕ). getD s m 0) (N .firsts-are) ∙ getD-tabulate 576 (firstAt a) m 0 h ∙ sym (number-is a (m / 6) (m % 6) b (omega arith))
 
-  pub last-at : (g b : ℕ) {x : ℕ} → x ≡ getD lasts g 0 → g < 96 → b ≡ 440 * g + 376 → x ≡ fieldAt a b 64
-  last-at g b e h eb = e ∙ ap (λ (s : List ℕ). getD s g 0) (N .lasts-are) ∙ getD-tabulate 96 (lastAt a) g 0 h ∙ sym (last-is a g b eb)
+  last-at : (g b : ℕ) {x : ℕ} → x ≡ getD lasts g 0 → g < 96 → b ≡ 440 * g + 376 → x ≡ fieldAt a b 64
+  last-at g b e h eb = e ∙ ap (λ (s : List ℕ). getD s g 0) (N .lasts-are) ∙ getD-tabulate 96 (lastAt a) g 0 h ∙ sym (number-is a g 6 b eb)
 
 -- what `joined` gives
 abbrev pub join : ℕ → ℕ → ℕ → ℕ
@@ -132,6 +138,14 @@ module _ {a w : List ℕ} where
           rw q (ap (λ (k : ℕ). getD w k 0) e ∙ P .lower j (omega arith) ∙ ap (λ (k : ℕ). fieldAt a k 110 * 2 ^ 16 % 2 ^ 64) f)
 
 -- ---- the words of the thirds
+
+-- word k of the four of third t is one of a lane's twelve
+pub word-lt : (t k : ℕ) → t < 3 → k < 4 → 4 * t + k < 12
+word-lt t k ht hk = omega arith
+
+-- and its number fits
+pub word-fits : (t k : ℕ) → t < 3 → k < 4 → Fits w64 (4 * t + k)
+word-fits t k ht hk = record { fits = omega arith }
 
 -- the four words of third t of lane p
 pub split-law : {firsts lasts w₀ w₁ w₂ w₃ w : List ℕ} {t p n₀ n₁ n₂ n₃ n₄ n₅ z y₀ x₁ y₁ x₂ y₂ x₃ : ℕ} → t < 3 → p < 32 → length w ≡ 768

@@ -2,11 +2,11 @@
 // Word 32 k + p is word k of lane p. In the order of the lanes it is word 12 p + k, whose first bit is bit 110 (12 p + k) of the frame.
 ghost use mathlib.Core.Path.{_≡_};
 ghost use Prim.Native.Nat.{_+_, _*_, _-_, _/_, _%_, _^_, _<_, _≤_};
-ghost use lib.ListN.{length, set};
+ghost use lib.ListN.{length};
 ghost use Rattle.bits.specs.definitions.Bits.{tabulate, fieldAt};
 ghost use Rattle.bits.specs.private.Joins.{Put};
 ghost use Rattle.lane_words.specs.definitions.LaneWords.{laneWords, wordLanes};
-ghost use Rattle.lane_words.specs.private.Thirds.{firstAt, lastAt, Numbers, withWord, Split, acrossOf, withFirsts, Numbered, thirdByte, laneByte};
+ghost use Rattle.lane_words.specs.private.Thirds.{firstAt, lastAt, withWord, Split, acrossOf, numberAt, thirdByte, laneByte};
 
 // The eight bytes from byte o on, as a number, the last byte first: so the compiler makes one move of them.
 fn load(s: &[u8], o: usize) -> u64
@@ -147,40 +147,11 @@ fn across(lo: u64, hi: u64, a: u64) -> u64
     joined(lo >> 16, hi << 2, a)
 }
 
-// The seven numbers of third g.
-fn put_numbers(
-    firsts: &mut [u64],
-    lasts: &mut [u64],
-    g: usize,
-    n0: u64,
-    n1: u64,
-    n2: u64,
-    n3: u64,
-    n4: u64,
-    n5: u64,
-    last: u64,
-)
-    requires { ⌜ (length (now firsts) ≡ 576) × (length (now lasts) ≡ 96) × (g < 96) ⌝ }
-    ensures { λ _. ⌜ now (firsts .exit) ≡ withFirsts (now (firsts .entry)) g n0 n1 n2 n3 n4 n5 ⌝ }
-    ensures { λ _. ⌜ now (lasts .exit) ≡ set (now (lasts .entry)) g last ⌝ }
-{
-    let m = 6 * g;
-    firsts[m] = n0;
-    firsts[m + 1] = n1;
-    firsts[m + 2] = n2;
-    firsts[m + 3] = n3;
-    firsts[m + 4] = n4;
-    firsts[m + 5] = n5;
-    lasts[g] = last;
-}
-
-// Third t of lane p as seven numbers, out of the information of its four words, where the thirds before it are joined.
-fn join_third(words: &[u64], t: usize, p: usize, firsts: &mut [u64], lasts: &mut [u64])
+// The seven numbers of third t of lane p, out of the information of its four words.
+fn join_third(words: &[u64], t: usize, p: usize, seven: &mut [u64; 7])
     requires { ⌜ (length (now words) ≡ 768) × (t < 3) × (p < 32) ⌝ }
-    requires { ⌜ Numbered (wordLanes (now words)) (3 * p + t) (now firsts) (now lasts) ⌝ }
-    ensures { λ _. ⌜ Numbered (wordLanes (now (words .entry))) (3 * p + t + 1) (now (firsts .exit)) (now (lasts .exit)) ⌝ }
+    ensures { λ _. ⌜ now (seven .exit) ≡ tabulate 7 (numberAt (wordLanes (now (words .entry))) (3 * p + t)) ⌝ }
 {
-    let g = 3 * p + t;
     let at = 2 * (128 * t + p);
     let h0 = words[at];
     let l0 = words[at + 1];
@@ -196,59 +167,53 @@ fn join_third(words: &[u64], t: usize, p: usize, firsts: &mut [u64], lasts: &mut
     let n3 = across(l1, h2, 28);
     let n4 = joined(h2, l2, 26);
     let n5 = across(l2, h3, 10);
-    let last = joined(h3, l3, 16);
-    put_numbers(firsts, lasts, g, n0, n1, n2, n3, n4, n5, last);
+    let n6 = joined(h3, l3, 16);
+    *seven = [n0, n1, n2, n3, n4, n5, n6];
 }
 
-// Every lane's three thirds.
-fn join_lanes(words: &[u64], firsts: &mut [u64], lasts: &mut [u64])
-    requires { ⌜ (length (now words) ≡ 768) × (length (now firsts) ≡ 576) × (length (now lasts) ≡ 96) ⌝ }
-    ensures { λ _. ⌜ Numbers (wordLanes (now (words .entry))) (now (firsts .exit)) (now (lasts .exit)) ⌝ }
+// Third t of lane p in its 55 bytes: the last number shares a byte with the sixth. All seven are joined before one is written, so that the compiler makes one
+// move of each.
+fn write_third(words: &[u64], t: usize, p: usize, seven: &mut [u64; 7], out: &mut [u8])
+    requires { ⌜ (length (now words) ≡ 768) × (length (now out) ≡ 55) × (t < 3) × (p < 32) ⌝ }
+    ensures { λ _. ⌜ now (out .exit) ≡ tabulate (length (now (out .entry))) (thirdByte (wordLanes (now (words .entry))) (3 * p + t)) ⌝ }
 {
+    join_third(words, t, p, seven);
+    let mut j: usize = 0;
+    while j < 6 {
+        put(out, 8 * j, seven[j]);
+        j += 1;
+    }
+    put(out, 47, seven[6]);
+}
+
+// The three thirds of lane p, over seven numbers that are lent for each in turn.
+fn write_lane(words: &[u64], p: usize, seven: &mut [u64; 7], out: &mut [u8])
+    requires { ⌜ (length (now words) ≡ 768) × (length (now out) ≡ 165) × (p < 32) ⌝ }
+    ensures { λ _. ⌜ now (out .exit) ≡ tabulate (length (now (out .entry))) (laneByte (wordLanes (now (words .entry))) p) ⌝ }
+{
+    write_third(words, 0, p, seven, &mut out[0..55]);
+    write_third(words, 1, p, seven, &mut out[55..110]);
+    write_third(words, 2, p, seven, &mut out[110..165]);
+}
+
+// Every lane.
+fn write_lanes(words: &[u64], lanes: &mut [u8])
+    requires { ⌜ (length (now words) ≡ 768) × (length (now lanes) ≡ 5280) ⌝ }
+    ensures { λ _. ⌜ now (lanes .exit) ≡ wordLanes (now (words .entry)) ⌝ }
+{
+    let mut seven = [0u64; 7];
     let mut p: usize = 0;
     while p < 32 {
-        join_third(words, 0, p, firsts, lasts);
-        join_third(words, 1, p, firsts, lasts);
-        join_third(words, 2, p, firsts, lasts);
+        let at = 165 * p;
+        let end = at + 165;
+        write_lane(words, p, &mut seven, &mut lanes[at..end]);
         p += 1;
     }
 }
 
-// The seven numbers of third g as its 55 bytes: the last shares a byte with the sixth.
-fn write_third(firsts: &[u64; 576], lasts: &[u64; 96], g: usize, out: &mut [u8])
-    requires { ⌜ (length (now out) ≡ 55) × (g < 96) ⌝ }
-    ensures { λ _. ⌜ now (out .exit) ≡ tabulate (length (now (out .entry))) (thirdByte (now (firsts .entry)) (now (lasts .entry)) g) ⌝ }
-{
-    let m = 6 * g;
-    let mut j: usize = 0;
-    while j < 6 {
-        put(out, 8 * j, firsts[m + j]);
-        j += 1;
-    }
-    put(out, 47, lasts[g]);
-}
-
-// Every third.
-fn write_thirds(firsts: &[u64; 576], lasts: &[u64; 96], lanes: &mut [u8])
-    requires { ⌜ length (now lanes) ≡ 5280 ⌝ }
-    ensures { λ _. ⌜ now (lanes .exit) ≡ tabulate 5280 (laneByte (now (firsts .entry)) (now (lasts .entry))) ⌝ }
-{
-    let mut g: usize = 0;
-    while g < 96 {
-        let at = 55 * g;
-        let end = at + 55;
-        write_third(firsts, lasts, g, &mut lanes[at..end]);
-        g += 1;
-    }
-}
-
-// The lanes of a frame's words; what stands above bit 0 in a hi, and the parity bits, are not looked at. All numbers are joined before one is written, so that
-// the compiler makes one move of each.
+// The lanes of a frame's words; what stands above bit 0 in a hi, and the parity bits, are not looked at.
 pub fn to_lanes(words: &[u64; 768], lanes: &mut [u8; 5280])
     ensures { λ _. ⌜ now (lanes .exit) ≡ wordLanes (now (words .entry)) ⌝ }
 {
-    let mut firsts = [0u64; 576];
-    let mut lasts = [0u64; 96];
-    join_lanes(words, &mut firsts, &mut lasts);
-    write_thirds(&firsts, &lasts, lanes);
+    write_lanes(words, lanes);
 }

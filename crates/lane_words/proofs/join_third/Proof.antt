@@ -1,16 +1,13 @@
--- `lane_words::join_third` meets its contract: the seven numbers are put in one after the other. Assumes nothing.
-use mathlib.Core.Path.{ap, _∙_}
+-- `lane_words::join_third` meets its contract. Assumes nothing.
 use native.Mathlib.Omega.{arith}
 use lib.Dec.{lit<}
-use lib.ListN.{length, length-set}
-use Rattle.lane_words.proofs.Joining.{third-lt, join-law}
+use Rattle.lane_words.proofs.Joining.{join-law}
 use Rattle.lane_words.proofs.join_third.Statement.{statement}
 use Rattle.lane_words.proofs.join_third.Tie as tie
 
 returns : tie.Need-returns
 returns c =
-    let put = c .before .before .before .before in
-    let last = put .before .before .before in
+    let last = c .before in
     let fifth = last .before in
     let fourth = fifth .before in
     let third = fourth .before in
@@ -18,11 +15,11 @@ returns c =
     let one = second .before in
     let zeroth = one .before in
     let read = zeroth .before in
-    let start = read .before .before .before .before .before .before .before .before .before .before .before in
-    join-law (start .args .words .now) (start .args .t) (start .args .p) (start .pre .0 .1) (start .pre .0 .2)
-    (λ i. omega (arith, read .shared-slice-known9 .given i))
+    let start = read .before .before .before .before .before .before .before .before .before in
+    join-law (start .args .words .now) (start .args .t) (start .args .p) (start .pre .1) (start .pre .2)
+    (λ i. read .shared-slice-known9 .given i .fits)
     (zeroth .joined .ensures) (one .across .ensures) (second .joined2 .ensures) (third .across2 .ensures) (fourth .joined3 .ensures) (fifth .across3 .ensures)
-    (last .joined4 .ensures) (start .pre .1) (put .put-numbers .ensures .0) (put .put-numbers .ensures .1)
+    (last .joined4 .ensures)
 
 pub join-third-spec : {M : Type 1} → statement M
 join-third-spec =
@@ -54,8 +51,6 @@ join-third-spec =
     (λ c. omega arith)
     (λ c. omega arith)
     (λ c. omega arith)
-    (λ c. omega arith)
-    (λ c. omega arith)
     (λ c κs. (lit< tt, lit< tt))
     (λ c κs. (lit< tt, lit< tt))
     (λ c κs. (lit< tt, lit< tt))
@@ -63,10 +58,4 @@ join-third-spec =
     (λ c κs. (lit< tt, lit< tt))
     (λ c κs. (lit< tt, lit< tt))
     (λ c κs. (lit< tt, lit< tt))
-    (λ c κs.
-    let read = c .before .before .before .before .before .before .before .before .before in
-    let start = read .before .before .before .before .before .before .before .before .before .before .before in
-    (start .pre .1 .first .long, start .pre .1 .last .long, third-lt _ _ (start .pre .0 .1) (start .pre .0 .2)))
-    (λ c. ap length (c .before .before .before .before .put-numbers .ensures .0) ∙ simp length-set)
-    (λ c. ap length (c .before .before .before .before .put-numbers .ensures .1) ∙ simp length-set)
     returns)

@@ -24,7 +24,7 @@ loop-again c =
       omega arith,
       subst (Filling (firstAt a) 576 _ _) next
           (filling-put (firstAt a) (6 * at .g + 6) _ (λ _ i. fieldAt a (8 * (55 * at .g) + 64 * i) 64) (at .inv .1) (omega arith) (omega arith)
-          (c .before .before .read-six .ensures) (λ k h. first-is a (6 * at .g + k) (8 * (55 * at .g) + 64 * k) (omega arith))),
+          (c .before .before .read-six .ensures) (λ k h. first-is a (at .g) k (8 * (55 * at .g) + 64 * k) (omega arith) (omega arith))),
     )
 
 pub read-firsts-spec : {M : Type 1} → statement M

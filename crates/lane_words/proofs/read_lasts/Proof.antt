@@ -4,7 +4,7 @@ use Prim.Native.Nat.{_-_}
 use native.Mathlib.Omega.{arith}
 use Rattle.bits.proofs.Filling.{Filling, filling-start, filling-step, filling-done}
 use Rattle.lane_words.specs.private.Thirds.{lastAt}
-use Rattle.lane_words.proofs.Thirds.{last-is}
+use Rattle.lane_words.proofs.Thirds.{number-is}
 use Rattle.lane_words.proofs.read_lasts.Statement.{statement}
 use Rattle.lane_words.proofs.read_lasts.Tie as tie
 
@@ -28,6 +28,6 @@ read-lasts-spec =
     (λ c. omega arith)
     (λ c. omega arith)
     (λ c. omega arith)
-    (λ c. filling-step _ _ (c .before .before .loop .inv) (omega arith) (c .load .ensures ∙ last-is _ _ _ (omega arith)))
+    (λ c. filling-step _ _ (c .before .before .loop .inv) (omega arith) (c .load .ensures ∙ number-is _ _ 6 _ (omega arith)))
     (λ c. omega arith)
     (λ c. filling-done _ (c .before .loop .inv) (omega arith)))

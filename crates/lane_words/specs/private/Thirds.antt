@@ -2,20 +2,22 @@
 -- read, and written, as seven numbers of 64 bits. No promise to a caller rests on a definition here.
 -- Assumes nothing.
 use mathlib.Core.Path.{_≡_}
-use mathlib.Core.Bool.{cond}
 use mathlib.Core.List.{List}
 use Prim.Native.Nat.{ℕ, _+_, _*_, _-_, _/_, _%_, _^_, _<_}
-use lib.Dec.{ltb}
 use lib.ListN.{length, getD, set}
 use Rattle.bits.specs.definitions.Bits.{tabulate, fieldAt}
 
--- the first six numbers of each third, which follow each other from its first bit on: number m of them all
-unfoldable pub firstAt : List ℕ → ℕ → ℕ
-firstAt a m = fieldAt a (440 * (m / 6) + 64 * (m % 6)) 64
+-- number j of the seven of third g: they follow each other from its first bit on, but the last begins eight bits sooner, and ends with the third
+unfoldable pub numberAt : List ℕ → ℕ → ℕ → ℕ
+numberAt a g j = fieldAt a (440 * g + (64 * j - 8 * (j / 6))) 64
 
--- the last number of third g: its last 64 bits
-unfoldable pub lastAt : List ℕ → ℕ → ℕ
-lastAt a g = fieldAt a (440 * g + 376) 64
+-- the first six numbers of each third: number m of them all
+abbrev pub firstAt : List ℕ → ℕ → ℕ
+firstAt a m = numberAt a (m / 6) (m % 6)
+
+-- the last number of third g
+abbrev pub lastAt : List ℕ → ℕ → ℕ
+lastAt a g = numberAt a g 6
 
 -- the numbers of the lanes a
 pub record Numbers (a firsts lasts : List ℕ) : Type 0 where
@@ -49,32 +51,9 @@ informationIn lo = lo / 2 ^ 16
 abbrev pub acrossOf : ℕ → ℕ → ℕ → ℕ
 acrossOf lo hi a = informationIn lo % 2 ^ a * 2 ^ (64 - a) + hi * 2 ^ 2 % 2 ^ 64 / 2 ^ a
 
--- the list l with other first six numbers of third g
-abbrev pub withFirsts : List ℕ → ℕ → ℕ → ℕ → ℕ → ℕ → ℕ → ℕ → List ℕ
-withFirsts l g n₀ n₁ n₂ n₃ n₄ n₅ =
-    set (set (set (set (set (set l (6 * g) n₀) (6 * g + 1) n₁) (6 * g + 2) n₂) (6 * g + 3) n₃) (6 * g + 4) n₄) (6 * g + 5) n₅
+-- byte c of third g, and of lane p
+abbrev pub thirdByte : List ℕ → ℕ → ℕ → ℕ
+thirdByte a g c = getD a (55 * g + c) 0
 
--- the list l has k elements, the first n of which are those of f
-pub record Begun (f : ℕ → ℕ) (k n : ℕ) (l : List ℕ) : Type 0 where
-  pub long : length l ≡ k
-  pub is : (i : ℕ) → i < n → getD l i 0 ≡ f i
-
--- the numbers of the first n thirds of the lanes a
-pub record Numbered (a : List ℕ) (n : ℕ) (firsts lasts : List ℕ) : Type 0 where
-  pub first : Begun (firstAt a) 576 (6 * n) firsts
-  pub last : Begun (lastAt a) 96 n lasts
-
--- byte c of the first six numbers of third g, and byte c of the third where its last number has it
-abbrev pub firstByte : List ℕ → ℕ → ℕ → ℕ
-firstByte firsts g c = getD firsts (6 * g + c / 8) 0 / 2 ^ (8 * (7 - c % 8)) % 256
-
-abbrev pub lastByte : List ℕ → ℕ → ℕ → ℕ
-lastByte lasts g c = getD lasts g 0 / 2 ^ (8 * (54 - c)) % 256
-
--- byte c of the third: its last eight are those of the last number
-unfoldable pub thirdByte : List ℕ → List ℕ → ℕ → ℕ → ℕ
-thirdByte firsts lasts g c = cond (ltb c 47) (firstByte firsts g c) (lastByte lasts g c)
-
--- byte m of the lanes whose numbers they are
-unfoldable pub laneByte : List ℕ → List ℕ → ℕ → ℕ
-laneByte firsts lasts m = thirdByte firsts lasts (m / 55) (m % 55)
+abbrev pub laneByte : List ℕ → ℕ → ℕ → ℕ
+laneByte a p c = getD a (165 * p + c) 0
