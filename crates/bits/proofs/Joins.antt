@@ -6,16 +6,17 @@ use mathlib.Core.Logic.{_≢_}
 use mathlib.Core.List.{List}
 use Prim.Native.Nat.{ℕ, zero, suc, _+_, _-_, _*_, _/_, _%_, _^_, _≤_, _<_, zero-le}
 use native.Mathlib.Nat.{add-comm, mod-lt, lt-of-lt-of-le, not-suc-le-zero, mul-suc, pow-suc}
-use native.Mathlib.Decide.{ℕ-discrete}
+use native.Mathlib.Decide.{decLt, ℕ-discrete}
 use native.Mathlib.Omega.{arith}
 use lib.Arith.{digits-lt}
 use lib.Pow.{pow-add, pow-pos, pow-mono, shr-lt, shl-exact}
 use lib.Dec.{lit<}
 use lib.Bits.{bitAnd, bitOr, and-mask, or-shifted}
 use lib.ListN.{length, getD, set, length-set}
-use lib.Seq.{getD-set-same, getD-set-other}
-use Rattle.bits.specs.private.Joins.{Put}
-use Rattle.bits.specs.definitions.Bits.{value, fieldAt, reversed, AllBytes}
+use lib.Seq.{ext-getD, getD-set-same, getD-set-other}
+use borrow.Author.Tests.{lt-ltb, le-ltb}
+use Rattle.bits.specs.definitions.Put.{Put, Puts}
+use Rattle.bits.specs.definitions.Bits.{value, fieldAt, loadedAt, reversed, AllBytes}
 use Rattle.bits.proofs.Value.{value-cong, value-digit, value-digits}
 use Rattle.bits.proofs.Fields.{bytes-field, byte-field, field-join, field-lt}
 
@@ -184,3 +185,31 @@ module _ {s : List ℕ} {o : ℕ} where
       let from : o + (8 - j) ≡ o = omega arith in
       let long : 8 * j ≡ 64 = omega arith in
       L .is ∙ ap₂ (λ (p n : ℕ). fieldAt s (8 * p) n) from long
+
+-- where there are eight bytes they are loaded, and else 0 is
+pub loaded-is : (s : List ℕ) (o : ℕ) → o + 8 ≤ length s → loadedAt s o ≡ fieldAt s (8 * o) 64
+unfolding loadedAt
+loaded-is s o h = rw (le-ltb (length s) (o + 8) h)
+
+pub loaded-none : (s : List ℕ) (o : ℕ) → length s < o + 8 → 0 ≡ loadedAt s o
+unfolding loadedAt
+loaded-none s o h = rw (lt-ltb (length s) (o + 8) h)
+
+-- what was put is known
+pub put-unique : {n v o : ℕ} {d l k : List ℕ} → Put n v o d l → Put n v o d k → l ≡ k
+put-unique {n} {v} {o} {d} {l} {k} P Q = ext-getD 0 l k (P .long ∙ sym (Q .long)) (λ m h. at m (decLt m o) (decLt m (o + n)))
+  where
+    at : (m : ℕ) → Dec (m < o) → Dec (m < o + n) → getD l m 0 ≡ getD k m 0
+    at m (yes a) b = P .before m a ∙ sym (Q .before m a)
+    at m (no a) (yes b) =
+        let e : o + (m - o) ≡ m = omega arith in
+        let h : m - o < n = omega arith in
+        ap (λ (i : ℕ). getD l i 0) (sym e) ∙ put-byte P (m - o) h ∙ sym (put-byte Q (m - o) h) ∙ ap (λ (i : ℕ). getD k i 0) e
+    at m (no a) (no b) = P .after m (omega arith) ∙ sym (Q .after m (omega arith))
+
+pub puts-unique : {v o : ℕ} {d l k : List ℕ} → Puts v o d l → Puts v o d k → l ≡ k
+puts-unique {v} {o} {d} {l} {k} P Q = at (decLt (length d) (o + 8))
+  where
+    at : Dec (length d < o + 8) → l ≡ k
+    at (yes h) = P .none h ∙ sym (Q .none h)
+    at (no h) = put-unique (P .room (omega arith)) (Q .room (omega arith))

@@ -1,9 +1,11 @@
-// Bits, words and rows, and the laws of them that every other crate cites. The code is what changes a number's width or copies bytes without a question asked.
+// Bits, words and rows, and the laws of them that every other crate cites. The code is what changes a number's width, or moves bytes, without a
+// question asked.
 ghost use mathlib.Core.Path.{_≡_};
 ghost use mathlib.Core.Logic.{_⊎_};
 ghost use Prim.Native.Nat.{_%_, _^_, _<_, _≤_};
 ghost use lib.ListN.{length};
-ghost use Rattle.bits.specs.definitions.Bits.{copied, reversed};
+ghost use Rattle.bits.specs.definitions.Bits.{loadedAt, copied, reversed};
+ghost use Rattle.bits.specs.definitions.Put.{Puts};
 
 // Powers of two by which numbers are cut, as the definitions write them: 2^24 and so on.
 pub const TWO_24: u64 = 1 << 24;
@@ -17,8 +19,6 @@ pub const TWO_40: u64 = 1 << 40;
 pub const TWO_48: u64 = 1 << 48;
 
 pub const TWO_56: u64 = 1 << 56;
-
-pub const TWO_60: u64 = 1 << 60;
 
 pub const TWO_62: u64 = 1 << 62;
 
@@ -62,6 +62,45 @@ pub fn reversed(v: u64) -> u64
         + v / TWO_40 % 256 * 65536
         + v / TWO_48 % 256 * 256
         + v / TWO_56
+}
+
+// The eight bytes from byte o on, as a number, the last byte first: so the compiler makes one move of them. 0 where there are not eight.
+pub fn load(s: &[u8], o: usize) -> u64
+    ensures { λ r. ⌜ r ≡ loadedAt (now (s .entry)) o ⌝ }
+{
+    if s.len() < 8 {
+        return 0;
+    }
+    if s.len() - 8 < o {
+        return 0;
+    }
+    let mut v: u64 = 0;
+    let mut j: usize = 0;
+    while j < 8 {
+        let k = (8 * j) as u64;
+        v = v + (wide8(s[o + (7 - j)]) << k);
+        j += 1;
+    }
+    v
+}
+
+// v as the eight bytes from byte o on: reversed first, so that the compiler makes one move of them. Where there are not eight, nothing changes.
+pub fn put(out: &mut [u8], o: usize, v: u64)
+    ensures { λ _. ⌜ Puts v o (now (out .entry)) (now (out .exit)) ⌝ }
+{
+    if out.len() < 8 {
+        return;
+    }
+    if out.len() - 8 < o {
+        return;
+    }
+    let w = reversed(v);
+    let mut j: usize = 0;
+    while j < 8 {
+        let k = (8 * j) as u64;
+        out[o + j] = low_byte(w >> k);
+        j += 1;
+    }
 }
 
 // The first n bytes of from over those of to.

@@ -12,7 +12,7 @@ use lib.Pow.{shr-shr}
 use lib.ListN.{length, getD, take, drop}
 use Rattle.bits.specs.definitions.Bits.{tabulate, fieldAt, AllBytes}
 use Rattle.bits.specs.definitions.Words.{wordOf}
-use Rattle.bits.specs.private.Joins.{Put}
+use Rattle.bits.specs.definitions.Put.{Put}
 use Rattle.bits.proofs.Tabulate.{getD-tabulate, is-tabulate}
 use Rattle.bits.proofs.Fields.{field-join, field-top, field-low, byte-field}
 use Rattle.bits.proofs.Filling.{Filling, filling-put, filling-done}

@@ -4,24 +4,8 @@ ghost use mathlib.Core.Path.{_≡_};
 ghost use Prim.Native.Nat.{_+_, _*_, _-_, _/_, _%_, _^_, _<_, _≤_};
 ghost use lib.ListN.{length};
 ghost use Rattle.bits.specs.definitions.Bits.{tabulate, fieldAt};
-ghost use Rattle.bits.specs.private.Joins.{Put};
 ghost use Rattle.lane_words.specs.definitions.LaneWords.{laneWords, wordLanes};
 ghost use Rattle.lane_words.specs.private.Thirds.{firstAt, lastAt, withWord, Split, acrossOf, numberAt, thirdByte, laneByte};
-
-// The eight bytes from byte o on, as a number, the last byte first: so the compiler makes one move of them.
-fn load(s: &[u8], o: usize) -> u64
-    requires { ⌜ o + 8 ≤ length (now s) ⌝ }
-    ensures { λ r. ⌜ r ≡ fieldAt (now (s .entry)) (8 * o) 64 ⌝ }
-{
-    let mut v: u64 = 0;
-    let mut j: usize = 0;
-    while j < 8 {
-        let k = (8 * j) as u64;
-        v = v + (bits::wide8(s[o + (7 - j)]) << k);
-        j += 1;
-    }
-    v
-}
 
 // The six numbers from byte o on, each of eight bytes.
 fn read_six(s: &[u8], o: usize, six: &mut [u64])
@@ -30,7 +14,7 @@ fn read_six(s: &[u8], o: usize, six: &mut [u64])
 {
     let mut i: usize = 0;
     while i < 6 {
-        six[i] = load(s, o + 8 * i);
+        six[i] = bits::load(s, o + 8 * i);
         i += 1;
     }
 }
@@ -56,7 +40,7 @@ fn read_lasts(lanes: &[u8], lasts: &mut [u64])
 {
     let mut g: usize = 0;
     while g < 96 {
-        lasts[g] = load(lanes, 55 * g + 47);
+        lasts[g] = bits::load(lanes, 55 * g + 47);
         g += 1;
     }
 }
@@ -125,20 +109,6 @@ pub fn to_words(lanes: &[u8; 5280], words: &mut [u64; 768])
     split_lanes(&firsts, &lasts, words);
 }
 
-// v as the eight bytes from byte o on: reversed first, so that the compiler makes one move of them.
-fn put(out: &mut [u8], o: usize, v: u64)
-    requires { ⌜ o + 8 ≤ length (now out) ⌝ }
-    ensures { λ _. ⌜ Put 8 v o (now (out .entry)) (now (out .exit)) ⌝ }
-{
-    let w = bits::reversed(v);
-    let mut j: usize = 0;
-    while j < 8 {
-        let k = (8 * j) as u64;
-        out[o + j] = bits::low_byte(w >> k);
-        j += 1;
-    }
-}
-
 // The last a bits of the information of a word whose second number is lo, and then the first 64 - a of the next word, whose first is hi.
 fn across(lo: u64, hi: u64, a: u64) -> u64
     requires { ⌜ (0 < a) × (a < 64) ⌝ }
@@ -180,10 +150,10 @@ fn write_third(words: &[u64], t: usize, p: usize, seven: &mut [u64; 7], out: &mu
     join_third(words, t, p, seven);
     let mut j: usize = 0;
     while j < 6 {
-        put(out, 8 * j, seven[j]);
+        bits::put(out, 8 * j, seven[j]);
         j += 1;
     }
-    put(out, 47, seven[6]);
+    bits::put(out, 47, seven[6]);
 }
 
 // The three thirds of lane p, over seven numbers that are lent for each in turn.

@@ -18,7 +18,7 @@ use lib.Seq.{getD-set-same, getD-set-other}
 use borrow.Author.Tests.{lt-ltb, le-ltb}
 use Rattle.bits.specs.definitions.Bits.{value, number, bitOf}
 use Rattle.bits.specs.definitions.Words.{wordAt, rowOf, halfOf, wordBytes}
-use Rattle.bits.specs.private.Joins.{Put}
+use Rattle.bits.specs.definitions.Put.{Put}
 use Rattle.bits.proofs.Value.{value-cong, value-lt, value-append, value-top, value-low, value-digit, bit-lt, number-bits}
 use Rattle.bits.proofs.Joins.{cross-lt, cross-bits, byte-pow, put-byte}
 use Rattle.bits.proofs.Tabulate.{is-tabulate}

@@ -4,7 +4,6 @@ ghost use mathlib.Core.Path.{_≡_};
 ghost use Prim.Native.Nat.{_<_, _≤_, _+_, _*_, _/_, _%_, _^_};
 ghost use lib.ListN.{length};
 ghost use Rattle.bits.specs.definitions.Words.{wordBytes};
-ghost use Rattle.bits.specs.private.Joins.{Put};
 ghost use Rattle.shuffle.specs.definitions.Shuffle.{shuffled, unshuffled};
 ghost use Rattle.shuffle.specs.private.Rotation.{crossed, rotatedFirst, rotated, Holds, HoldsBytes, LaneRotated, rotatedRow};
 
@@ -127,20 +126,6 @@ fn rotate_words(words: &[u64], places: usize, out: &mut [u64])
     }
 }
 
-// v as the eight bytes from byte o on: reversed first, so that the compiler makes one move of them.
-fn put(out: &mut [u8], o: usize, v: u64)
-    requires { ⌜ o + 8 ≤ length (now out) ⌝ }
-    ensures { λ _. ⌜ Put 8 v o (now (out .entry)) (now (out .exit)) ⌝ }
-{
-    let w = bits::reversed(v);
-    let mut j: usize = 0;
-    while j < 8 {
-        let k = (8 * j) as u64;
-        out[o + j] = bits::low_byte(w >> k);
-        j += 1;
-    }
-}
-
 // The twelve words of lane p rotated by n places, each put as sixteen bytes.
 fn put_lane(words: &[u64], p: usize, n: u64, out: &mut [u8])
     requires { ⌜ (length (now words) ≡ 768) × (length (now out) ≡ 6144) ⌝ }
@@ -153,8 +138,8 @@ fn put_lane(words: &[u64], p: usize, n: u64, out: &mut [u8])
         let hi = words[2 * i];
         let lo = words[2 * i + 1];
         let w = rotate(hi % bits::TWO_62, lo, n);
-        put(out, 16 * i, w.hi);
-        put(out, 16 * i + 8, w.lo);
+        bits::put(out, 16 * i, w.hi);
+        bits::put(out, 16 * i + 8, w.lo);
         k += 1;
     }
 }

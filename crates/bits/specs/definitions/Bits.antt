@@ -4,6 +4,7 @@
 use mathlib.Core.Bool.{Bool, cond}
 use mathlib.Core.List.{List, [], _∷_, _++_}
 use Prim.Native.Nat.{ℕ, zero, suc, _+_, _*_, _-_, _/_, _%_, _^_, _<_}
+use lib.Dec.{ltb}
 use lib.ListN.{getD, length, take, drop}
 
 -- the list f 0, f 1, .., f (n - 1)
@@ -31,6 +32,10 @@ bitAt s i = bitOf 8 (getD s (i / 8) 0) (i % 8)
 -- a field: the number of the n bits of a byte string from bit i on
 unfoldable pub fieldAt : List ℕ → ℕ → ℕ → ℕ
 fieldAt s i n = number n (λ q. bitAt s (i + q))
+
+-- the number of the eight bytes from place o on; 0 where there are not eight
+unfoldable pub loadedAt : List ℕ → ℕ → ℕ
+loadedAt s o = cond (ltb (length s) (o + 8)) 0 (fieldAt s (8 * o) 64)
 
 -- the n bytes whose bits are f 0, f 1, ..
 unfoldable pub bytes : ℕ → (ℕ → ℕ) → List ℕ

@@ -2,6 +2,7 @@
 use mathlib.Core.Path.{_∙_}
 use Prim.Native.Nat.{_-_}
 use native.Mathlib.Omega.{arith}
+use Rattle.bits.proofs.Joins.{loaded-is}
 use Rattle.bits.proofs.Filling.{Filling, filling-start, filling-step, filling-done}
 use Rattle.lane_words.specs.private.Thirds.{lastAt}
 use Rattle.lane_words.proofs.Thirds.{number-is}
@@ -23,11 +24,11 @@ read-lasts-spec =
     (λ c. filling-start _ (omega arith))
     (λ c. omega arith)
     (λ c. omega arith)
-    (λ c κs. omega arith)
+    (λ c κs. tt)
     (λ c. omega arith)
     (λ c. omega arith)
     (λ c. omega arith)
     (λ c. omega arith)
-    (λ c. filling-step _ _ (c .before .before .loop .inv) (omega arith) (c .load .ensures ∙ number-is _ _ 6 _ (omega arith)))
+    (λ c. filling-step _ _ (c .before .before .loop .inv) (omega arith) (c .load .ensures ∙ loaded-is _ _ (omega arith) ∙ number-is _ _ 6 _ (omega arith)))
     (λ c. omega arith)
     (λ c. filling-done _ (c .before .loop .inv) (omega arith)))

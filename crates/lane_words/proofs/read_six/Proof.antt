@@ -5,6 +5,7 @@ use Prim.Native.Nat.{ℕ, _+_, _*_, _-_}
 use native.Mathlib.Omega.{arith}
 use lib.ListN.{length}
 use Rattle.bits.specs.definitions.Bits.{fieldAt}
+use Rattle.bits.proofs.Joins.{loaded-is}
 use Rattle.bits.proofs.Filling.{Filling, filling-start, filling-step, filling-done}
 use Rattle.lane_words.proofs.read_six.Statement.{statement}
 use Rattle.lane_words.proofs.read_six.Tie as tie
@@ -24,7 +25,7 @@ loop-again c =
     let a = c .before .before .before .before .before .args in
     let at = c .before .before .loop in
     let e : 8 * (a .o + 8 * at .i) ≡ 8 * a .o + 64 * at .i = omega arith in
-    filling-step _ _ (at .inv) (omega arith) (c .load .ensures ∙ ap (λ (b : ℕ). fieldAt (a .s .now) b 64) e)
+    filling-step _ _ (at .inv) (omega arith) (c .load .ensures ∙ loaded-is _ _ (omega arith) ∙ ap (λ (b : ℕ). fieldAt (a .s .now) b 64) e)
 
 pub read-six-spec : {M : Type 1} → statement M
 read-six-spec =
@@ -35,7 +36,7 @@ read-six-spec =
     (λ c. filling-start _ refl)
     (λ c. omega arith)
     (λ c. omega arith)
-    (λ c κs. omega arith)
+    (λ c κs. tt)
     (λ c. omega arith)
     (λ c. omega arith)
     (λ c. omega arith)

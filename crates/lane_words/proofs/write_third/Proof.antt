@@ -24,7 +24,7 @@ loop-again c =
     let words = joined .before .before .before .before .args .words .now in (
       omega arith,
       begun-put (at .loop .j) (8 * at .loop .j) _ (lanes-bytes words) (joined .join-third .ensures) (omega arith) (omega arith) (omega arith) (omega arith)
-          (at .loop .inv .1) (done .put .ensures),
+          (at .loop .inv .1) (done .put .ensures .room (omega arith)),
     )
 
 returns : tie.Need-returns Inv-loop μ-loop
@@ -34,7 +34,7 @@ returns c =
     let joined = at .before in
     let words = joined .before .before .before .before .args .words .now in
     begun-done
-    (begun-put 6 47 55 (lanes-bytes words) (joined .join-third .ensures) (lit< tt) refl (omega arith) refl (at .loop .inv .1) (last .put2 .ensures))
+    (begun-put 6 47 55 (lanes-bytes words) (joined .join-third .ensures) (lit< tt) refl (omega arith) refl (at .loop .inv .1) (last .put2 .ensures .room (omega arith)))
     (omega arith)
 
 pub write-third-spec : {M : Type 1} → statement M

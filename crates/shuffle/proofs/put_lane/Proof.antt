@@ -51,7 +51,7 @@ mul-put : tie.Need-mul-put Inv-loop μ-loop
 mul-put c = omega arith
 
 put-requires : tie.Need-put-requires Inv-loop μ-loop
-put-requires c κs = omega (arith, c .before .before .before .before .before .loop .inv .long)
+put-requires c κs = tt
 
 mul-put-2 : tie.Need-mul-put-2 Inv-loop μ-loop
 mul-put-2 c = omega arith
@@ -60,9 +60,7 @@ add-put : tie.Need-add-put Inv-loop μ-loop
 add-put c = omega arith
 
 put-requires-2 : tie.Need-put-requires-2 Inv-loop μ-loop
-put-requires-2 c κs =
-    let u = c .before .before .before in
-    omega (arith, u .put .ensures .long, u .before .before .before .before .before .before .loop .inv .long)
+put-requires-2 c κs = tt
 
 add-k : tie.Need-add-k Inv-loop μ-loop
 add-k c = omega arith
@@ -80,8 +78,11 @@ loop-again c =
     let a = at .before .before .before .args in
     let i = 32 * at .loop .k + a .p in
     let e = r .rotate .ensures in
-    let w = numbers-put i _ _ (rotated (a .n) (wordAt (a .words .now) i)) (u .put .ensures) (q .put2 .ensures) (e .0) (e .1) in
-    lane-step own-bytes (at .loop .inv) (omega arith) (omega arith) refl (q .put2 .ensures .long ∙ u .put .ensures .long) (w .0) (w .1)
+    let L = at .loop .inv in
+    let P = u .put .ensures .room (omega (arith, L .long)) in
+    let Q = q .put2 .ensures .room (omega (arith, P .long, L .long)) in
+    let w = numbers-put i _ _ (rotated (a .n) (wordAt (a .words .now) i)) P Q (e .0) (e .1) in
+    lane-step own-bytes L (omega arith) (omega arith) refl (Q .long ∙ P .long) (w .0) (w .1)
 
 same-length : tie.Need-same-length Inv-loop μ-loop
 same-length c = c .before .loop .inv .long

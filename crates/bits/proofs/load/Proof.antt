@@ -1,9 +1,10 @@
--- `lane_words::load` meets its contract: the last j bytes are loaded. Assumes nothing.
+-- `bits::load` meets its contract: the last j bytes are loaded. Assumes nothing.
+use mathlib.Core.Path.{sym, _∙_}
 use Prim.Native.Nat.{_-_}
 use native.Mathlib.Omega.{arith}
-use Rattle.bits.proofs.Joins.{Loading, loading-start, loading-step, loading-lt, loading-done}
-use Rattle.lane_words.proofs.load.Statement.{statement}
-use Rattle.lane_words.proofs.load.Tie as tie
+use Rattle.bits.proofs.Joins.{Loading, loading-start, loading-step, loading-lt, loading-done, loaded-is, loaded-none}
+use Rattle.bits.proofs.load.Statement.{statement}
+use Rattle.bits.proofs.load.Tie as tie
 
 abbrev Inv-loop : tie.InvT-loop
 Inv-loop s o v₀ j₀ v j = Loading s o j v
@@ -20,7 +21,10 @@ load-spec =
     (tie.spec
     Inv-loop
     μ-loop
-    (λ c. loading-start (record { byte = λ m. omega (arith, c .shared-slice-known .given m) }))
+    (λ c. loaded-none _ _ (omega arith))
+    (λ c. omega arith)
+    (λ c. loaded-none _ _ (omega arith))
+    (λ c. loading-start (record { byte = λ m. omega (arith, c .before .before .shared-slice-known .given m) }))
     (λ c. omega arith)
     (λ c. omega arith)
     (λ c. omega arith)
@@ -31,4 +35,4 @@ load-spec =
     (λ c. omega arith)
     (λ c. omega arith)
     loop-again
-    (λ c. loading-done (c .before .loop .inv) (c .loop-test .left)))
+    (λ c. loading-done (c .before .loop .inv) (c .loop-test .left) ∙ sym (loaded-is _ _ (omega arith))))

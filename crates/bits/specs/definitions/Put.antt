@@ -1,4 +1,4 @@
--- What a writer of a number's bytes leaves in a list, for the private functions that write so. No promise to a caller rests on a definition here.
+-- What a writer of a number's bytes leaves in a list.
 -- Assumes nothing.
 use mathlib.Core.Path.{_≡_}
 use mathlib.Core.List.{List}
@@ -13,3 +13,8 @@ pub record Put (n v o : ℕ) (d l : List ℕ) : Type 0 where
   pub before : (m : ℕ) → m < o → getD l m 0 ≡ getD d m 0
   pub after : (m : ℕ) → o + n ≤ m → getD l m 0 ≡ getD d m 0
   pub is : fieldAt l (8 * o) (8 * n) ≡ v
+
+-- the list l is d with the number v as its eight bytes from place o on; where there are not eight, it is d
+pub record Puts (v o : ℕ) (d l : List ℕ) : Type 0 where
+  pub room : o + 8 ≤ length d → Put 8 v o d l
+  pub none : length d < o + 8 → l ≡ d
