@@ -1,11 +1,11 @@
--- Rows of words: those that are all code words, eight of a longer row, and a frame.
+-- Rows of words: those that are all code words, those mended word by word, eight of a longer row, and a frame.
 -- Assumes nothing.
 use mathlib.Core.Path.{_≡_, refl, sym, ap, ap₂, _∙_, subst}
 use mathlib.Core.Bool.{cond}
 use mathlib.Core.Logic.{_⊎_, inl, inr}
 use mathlib.Core.List.{List, _++_}
 use Prim.Native.Nat.{ℕ, _+_, _-_, _*_, _/_, _%_, _^_, _<_, _≤_}
-use native.Mathlib.Nat.{div-add-mod'}
+use native.Mathlib.Nat.{le-refl, div-add-mod'}
 use native.Mathlib.Omega.{arith}
 use lib.Arith.{digits-div, digits-mod}
 use lib.Dec.{eqb}
@@ -14,27 +14,20 @@ use lib.Seq.{getD-take, getD-drop}
 use lib.Bits.{bitOr, or-add-and, and-le-l, and-le-r}
 use Rattle.bits.specs.definitions.Bits.{tabulate}
 use Rattle.bits.specs.definitions.Words.{wordAt, halfOf, rowOf}
-use Rattle.bits.proofs.Filling.{Filling, filling-rest, filling-put}
+use Rattle.bits.proofs.Filling.{Filling, filling-start, filling-step, filling-rest, filling-done, filling-put}
 use Rattle.bits.proofs.Tabulate.{getD-tabulate, tabulate-cong, is-tabulate}
-use Rattle.bits.proofs.Words.{Rewriting, row-cong}
+use Rattle.bits.proofs.Words.{Rewriting, row-start, row-step, row-done, row-cong}
 use Rattle.bits.proofs.Xor.{bit-cases}
 use Rattle.bch.specs.definitions.Code.{remainder}
 use Rattle.decoder.specs.definitions.Mend.{mend, mended, flagOf}
 use Rattle.decoder.specs.definitions.Word.{mendedFrame, flagsOf}
-use Rattle.decoder.specs.private.Answer.{Pattern, remainderOf, Answers, Measured, plainAt, mendedRow, flagsRow}
+use Rattle.decoder.specs.private.Answer.{Pattern, remainderOf, Answers, HasRemainders, MendedAt, plainAt, passed, flagAt, mendedRow, flagsRow}
 use Rattle.decoder.specs.declared.Mend.the-variants.{Clean}
 use Rattle.decoder.proofs.Patterns.{answers-unique, mend-answers}
 
 -- where a sum of bits is 0 both are
 pub or-zero : (a b : ℕ) → bitOr a b ≡ 0 → (a ≡ 0) × (b ≡ 0)
 or-zero a b e = (omega (arith, or-add-and a b, and-le-r a b), omega (arith, or-add-and a b, and-le-l a b))
-
--- what word i of a row is passed on as, and its flag byte
-abbrev pub passed : List ℕ → ℕ → ℕ
-passed s i = mended (plainAt s i) (mend (plainAt s i))
-
-abbrev pub flagAt : List ℕ → ℕ → ℕ
-flagAt s i = flagOf (mend (plainAt s i))
 
 -- a word that is not reached yet
 pub plain-rest : (f : ℕ → ℕ) {n : ℕ} {s₀ s : List ℕ} {i : ℕ} → Rewriting f n s₀ s i → (k : ℕ) → i ≤ k → plainAt s k ≡ plainAt s₀ k
@@ -75,7 +68,7 @@ unfolding Pattern remainderOf
 mend-clean w e = answers-unique 0 (mend w) Clean (subst (λ (s : ℕ). Answers s (mend w)) e (mend-answers w)) (inl (tt, refl))
 
 -- words whose remainders are all 0 pass on as they are, with flag 0
-pub clean-row : (n : ℕ) (s rest : List ℕ) → Measured n s rest → s ≡ rowOf n (plainAt s) → ((i : ℕ) → i < n → getD rest i 0 ≡ 0)
+pub clean-row : (n : ℕ) (s rest : List ℕ) → HasRemainders n s rest → s ≡ rowOf n (plainAt s) → ((i : ℕ) → i < n → getD rest i 0 ≡ 0)
     → (s ≡ mendedRow n s) × (tabulate n (λ i. 0) ≡ flagsRow n s)
 unfolding mended flagOf
 clean-row n s rest M own zero = (
@@ -86,9 +79,46 @@ clean-row n s rest M own zero = (
     clean : (i : ℕ) → i < n → mend (plainAt s i) ≡ Clean
     clean i h = mend-clean (plainAt s i) (sym (M .remains i h) ∙ zero i h)
 
+-- ---- words that are mended from the first on: how it starts, what the next word has, a word more, and the end
+
+-- the first i of the n words of s are mended, and have their flags
+pub record Mending (n : ℕ) (s flags₀ words flags : List ℕ) (i : ℕ) : Type 0 where
+  pub row : Rewriting (passed s) n s words i
+  pub filled : Filling (flagAt s) n flags₀ flags i
+
+pub mending-start : {n : ℕ} {s flags : List ℕ} → length s ≡ 2 * n → length flags ≡ n → Mending n s flags s flags 0
+mending-start {n} {s} {flags} a b = record { row = row-start (passed s) a; filled = filling-start (flagAt s) b }
+
+module _ {n : ℕ} {s flags₀ words flags : List ℕ} {i : ℕ} (M : Mending n s flags₀ words flags i) where
+  -- nothing grows or shrinks
+  pub mending-long : (length words ≡ length s) × (length flags ≡ length flags₀)
+  mending-long =
+      let r = M .row .numbers in
+      let f = M .filled in
+      (r .long ∙ sym (r .long₀), f .long ∙ sym (f .long₀))
+
+  -- the next word is as it was, so its remainder is
+  pub mending-rest : {rest : List ℕ} → HasRemainders n s rest → i < n → getD rest i 0 ≡ remainder 126 (plainAt words i)
+  mending-rest H h = H .remains i h ∙ ap (remainder 126) (sym (plain-rest (passed s) (M .row) i (le-refl i)))
+
+  pub mending-step : {words′ flags′ : List ℕ} → MendedAt i words flags words′ flags′ → i < n → Mending n s flags₀ words′ flags′ (i + 1)
+  mending-step D h =
+      let e = plain-rest (passed s) (M .row) i (le-refl i) in
+      record {
+        row =
+            subst (λ (l : List ℕ). Rewriting (passed s) n s l (i + 1)) (sym (D .word))
+            (row-step (passed s) (M .row) _ _ h (ap (λ (w : ℕ). mended w (mend w) / 2 ^ 64) e) (ap (λ (w : ℕ). mended w (mend w) % 2 ^ 64) e));
+        filled =
+            subst (λ (l : List ℕ). Filling (flagAt s) n flags₀ l (i + 1)) (sym (D .flag))
+            (filling-step (flagAt s) _ (M .filled) h (ap (λ (w : ℕ). flagOf (mend w)) e));
+      }
+
+  pub mending-done : n ≤ i → (words ≡ mendedRow n s) × (flags ≡ flagsRow n s)
+  mending-done h = (row-done (passed s) (M .row) h, filling-done (flagAt s) (M .filled) h)
+
 -- ---- eight words of a row, from word g on, of which those before are mended
 
-module _ (s words rest : List ℕ) (g : ℕ) (R : Rewriting (passed s) 384 s words g) (M : Measured 384 s rest) (h : g + 8 ≤ 384) where
+module _ (s words rest : List ℕ) (g : ℕ) (R : Rewriting (passed s) 384 s words g) (M : HasRemainders 384 s rest) (h : g + 8 ≤ 384) where
   abbrev eight : List ℕ
   eight = take (2 * (g + 8) - 2 * g) (drop (2 * g) words)
 
@@ -104,8 +134,8 @@ module _ (s words rest : List ℕ) (g : ℕ) (R : Rewriting (passed s) 384 s wor
       (number-at (2 * i + 1) (omega arith) ∙ ap (λ (k : ℕ). getD words k 0) f)
       ∙ plain-rest (passed s) R (g + i) (omega arith)
 
-  pub eight-measured : Measured 8 eight (take (g + 8 - g) (drop g rest))
-  eight-measured =
+  pub eight-remainders : HasRemainders 8 eight (take (g + 8 - g) (drop g rest))
+  eight-remainders =
       record {
         remains = λ i l.
             getD-take (g + 8 - g) (drop g rest) i 0 (omega arith) ∙ getD-drop g rest i 0 ∙ M .remains (g + i) (omega arith)
@@ -142,8 +172,8 @@ module _ (s : List ℕ) {words rest : List ℕ} (W : words ≡ rowOf 384 (wordAt
   same-word : (i : ℕ) → i < 384 → plainAt words i ≡ wordAt s i
   same-word i h = ap (λ (l : List ℕ). plainAt l i) W ∙ row-plain 384 (wordAt s) i h
 
-  pub frame-measured : Measured 384 words rest
-  frame-measured =
+  pub frame-remainders : HasRemainders 384 words rest
+  frame-remainders =
       record {
         remains = λ i h.
             ap (λ (l : List ℕ). getD l i 0) E ∙ getD-tabulate 384 (λ i. remainder 126 (wordAt s i)) i 0 h ∙ ap (remainder 126) (sym (same-word i h));

@@ -5,10 +5,11 @@ ghost use Prim.Native.Nat.{ℕ, _<_, _+_, _*_, _/_, _%_, _^_};
 ghost use lib.ListN.{getD, length};
 ghost use Rattle.bits.specs.definitions.Bits.{tabulate};
 ghost use Rattle.bits.specs.definitions.Words.{wordOf};
+ghost use Rattle.bch.specs.definitions.Code.{remainder};
 ghost use Rattle.decoder_tables.specs.private.Tables.{IsColumns, IsSingleBits, Finds, risingOf, valuesOf, locatedPair};
 ghost use Rattle.decoder.specs.definitions.Mend.{mend, flagOf};
 ghost use Rattle.decoder.specs.definitions.Word.{decoded, mendedFrame, flagsOf};
-ghost use Rattle.decoder.specs.private.Answer.{Tells, Measured, confirmed, countOf, patternOf, flippedAt, mendedRow, flagsRow};
+ghost use Rattle.decoder.specs.private.Answer.{Tells, HasRemainders, MendedAt, confirmed, countOf, patternOf, flippedAt, plainAt, mendedRow, flagsRow};
 
 // What decoding flipped: no bit, one, two in rising order; or no code word lies within two bits.
 pub enum Mend {
@@ -251,7 +252,41 @@ fn clear(flags: &mut [u8])
     }
 }
 
-// Each of eight words becomes what it decodes to, and gets its flag byte.
+// Word i of eight becomes what it decodes to, and gets its flag byte.
+fn mend_one(
+    field: &[u16; 512],
+    log: &[u8; 128],
+    cube: &[u8; 128],
+    one: &[u8; 255],
+    other: &[u8; 255],
+    place: &[u8; 382],
+    column: &[u16; 128],
+    bit: &[u64; 256],
+    rest: &[u16],
+    words: &mut [u64],
+    flags: &mut [u8],
+    i: usize,
+)
+    requires { ⌜ Finds (now field) (now log) (now cube) (now one) (now other) (now place) ⌝ }
+    requires { ⌜ IsColumns (now column) ⌝ }
+    requires { ⌜ IsSingleBits (now bit) ⌝ }
+    requires { ⌜ (length (now rest) ≡ 8) × (length (now words) ≡ 16) × (length (now flags) ≡ 8) × (i < 8) ⌝ }
+    requires { ⌜ getD (now rest) i 0 ≡ remainder 126 (plainAt (now words) i) ⌝ }
+    ensures { λ _. ⌜ MendedAt i (now (words .entry)) (now (flags .entry)) (now (words .exit)) (now (flags .exit)) ⌝ }
+{
+    let at = 2 * i;
+    let hi = words[at];
+    let lo = words[at + 1];
+    let s = bits::wide16(rest[i]);
+    let f = find(field, log, cube, one, other, place, column, s);
+    let p = f.places;
+    let w = flip(bit, hi, lo, p);
+    words[at] = w.hi;
+    words[at + 1] = w.lo;
+    flags[i] = f.flag;
+}
+
+// Each of eight words becomes what it decodes to, and gets its flag byte. The calls are written out: with literal places they are faster than a loop.
 fn mend_eight(
     field: &[u16; 512],
     log: &[u8; 128],
@@ -269,23 +304,121 @@ fn mend_eight(
     requires { ⌜ IsColumns (now column) ⌝ }
     requires { ⌜ IsSingleBits (now bit) ⌝ }
     requires { ⌜ (length (now rest) ≡ 8) × (length (now words) ≡ 16) × (length (now flags) ≡ 8) ⌝ }
-    requires { ⌜ Measured 8 (now words) (now rest) ⌝ }
+    requires { ⌜ HasRemainders 8 (now words) (now rest) ⌝ }
     ensures { λ _. ⌜ (now (words .exit) ≡ mendedRow 8 (now (words .entry))) × (now (flags .exit) ≡ flagsRow 8 (now (words .entry))) ⌝ }
 {
-    let mut i: usize = 0;
-    while i < 8 {
-        let at = 2 * i;
-        let hi = words[at];
-        let lo = words[at + 1];
-        let s = bits::wide16(rest[i]);
-        let f = find(field, log, cube, one, other, place, column, s);
-        let p = f.places;
-        let w = flip(bit, hi, lo, p);
-        words[at] = w.hi;
-        words[at + 1] = w.lo;
-        flags[i] = f.flag;
-        i += 1;
-    }
+    mend_one(
+        field,
+        log,
+        cube,
+        one,
+        other,
+        place,
+        column,
+        bit,
+        rest,
+        words,
+        flags,
+        0,
+    );
+    mend_one(
+        field,
+        log,
+        cube,
+        one,
+        other,
+        place,
+        column,
+        bit,
+        rest,
+        words,
+        flags,
+        1,
+    );
+    mend_one(
+        field,
+        log,
+        cube,
+        one,
+        other,
+        place,
+        column,
+        bit,
+        rest,
+        words,
+        flags,
+        2,
+    );
+    mend_one(
+        field,
+        log,
+        cube,
+        one,
+        other,
+        place,
+        column,
+        bit,
+        rest,
+        words,
+        flags,
+        3,
+    );
+    mend_one(
+        field,
+        log,
+        cube,
+        one,
+        other,
+        place,
+        column,
+        bit,
+        rest,
+        words,
+        flags,
+        4,
+    );
+    mend_one(
+        field,
+        log,
+        cube,
+        one,
+        other,
+        place,
+        column,
+        bit,
+        rest,
+        words,
+        flags,
+        5,
+    );
+    mend_one(
+        field,
+        log,
+        cube,
+        one,
+        other,
+        place,
+        column,
+        bit,
+        rest,
+        words,
+        flags,
+        6,
+    );
+    mend_one(
+        field,
+        log,
+        cube,
+        one,
+        other,
+        place,
+        column,
+        bit,
+        rest,
+        words,
+        flags,
+        7,
+    );
 }
 
 // The same of eight words that may all be code words: the one branch, which is guessed right while the line is good.
@@ -306,7 +439,7 @@ fn mend_group(
     requires { ⌜ IsColumns (now column) ⌝ }
     requires { ⌜ IsSingleBits (now bit) ⌝ }
     requires { ⌜ (length (now rest) ≡ 8) × (length (now words) ≡ 16) × (length (now flags) ≡ 8) ⌝ }
-    requires { ⌜ Measured 8 (now words) (now rest) ⌝ }
+    requires { ⌜ HasRemainders 8 (now words) (now rest) ⌝ }
     ensures { λ _. ⌜ (now (words .exit) ≡ mendedRow 8 (now (words .entry))) × (now (flags .exit) ≡ flagsRow 8 (now (words .entry))) ⌝ }
 {
     if any(rest) == 0 {
@@ -346,7 +479,7 @@ fn mend_words(
     requires { ⌜ IsColumns (now column) ⌝ }
     requires { ⌜ IsSingleBits (now bit) ⌝ }
     requires { ⌜ (length (now rest) ≡ 384) × (length (now words) ≡ 768) × (length (now flags) ≡ 384) ⌝ }
-    requires { ⌜ Measured 384 (now words) (now rest) ⌝ }
+    requires { ⌜ HasRemainders 384 (now words) (now rest) ⌝ }
     ensures { λ _. ⌜ (now (words .exit) ≡ mendedRow 384 (now (words .entry))) × (now (flags .exit) ≡ flagsRow 384 (now (words .entry))) ⌝ }
 {
     let mut g: usize = 0;
@@ -374,7 +507,7 @@ fn mend_words(
 // The tables are copied here and not above, so that a frame of code words does not pay for them.
 fn mend_frame(rest: &[u16], words: &mut [u64], flags: &mut [u8])
     requires { ⌜ (length (now rest) ≡ 384) × (length (now words) ≡ 768) × (length (now flags) ≡ 384) ⌝ }
-    requires { ⌜ Measured 384 (now words) (now rest) ⌝ }
+    requires { ⌜ HasRemainders 384 (now words) (now rest) ⌝ }
     ensures { λ _. ⌜ (now (words .exit) ≡ mendedRow 384 (now (words .entry))) × (now (flags .exit) ≡ flagsRow 384 (now (words .entry))) ⌝ }
 {
     let tables = decoder_tables::places();

@@ -4,7 +4,7 @@ use Prim.Native.Nat.{ℕ}
 use lib.ListN.{length}
 use Rattle.bits.specs.definitions.Bits.{tabulate}
 use Rattle.bits.proofs.Tabulate.{length-tabulate}
-use Rattle.decoder.proofs.Rows.{clean-row, frame-measured, frame-own, frame-mended}
+use Rattle.decoder.proofs.Rows.{clean-row, frame-remainders, frame-own, frame-mended}
 use borrow.Author.Needs.{needs}
 use Rattle.decoder.proofs.decode_frame.Statement.{statement}
 use Rattle.decoder.proofs.decode_frame.Tie as tie
@@ -23,7 +23,7 @@ mend-frame-requires c κs =
         ap length (done .ensures .0) ∙ length-tabulate 768 _,
         search needs,
       ),
-      frame-measured _ (done .ensures .0) (done .ensures .1),
+      frame-remainders _ (done .ensures .0) (done .ensures .1),
     )
 
 returns : tie.Need-returns
@@ -32,7 +32,7 @@ returns c =
     let any = c .before .before .before .any in
     let s = c .before .before .before .before .before .before .before .before .args .words .now in
     let long : length (done .last .1 .0) ≡ 384 = ap length (done .ensures .1) ∙ length-tabulate 384 _ in
-    let clean = clean-row 384 _ _ (frame-measured s (done .ensures .0) (done .ensures .1)) (frame-own s (done .ensures .0) (done .ensures .1))
+    let clean = clean-row 384 _ _ (frame-remainders s (done .ensures .0) (done .ensures .1)) (frame-own s (done .ensures .0) (done .ensures .1))
     (λ i h. any .ensures (c .before .before .if1 .taken) i (rw long h)) in
     let mended = frame-mended s (done .ensures .0) (done .ensures .1) in
     (clean .0 ∙ mended .0, c .clear .ensures ∙ ap (λ (n : ℕ). tabulate n (λ i. 0)) (search needs) ∙ clean .1 ∙ mended .1)

@@ -1,76 +1,101 @@
--- `decoder::mend_eight` meets its contract: the words before word i are mended, and have their flags. Assumes nothing.
-use mathlib.Core.Path.{ap, _∙_}
-use Prim.Native.Nat.{ℕ, _-_, _/_, _%_, _^_, _<_}
+-- `decoder::mend_eight` meets its contract: after each call one word more is mended, and has its flag. Assumes nothing.
+use mathlib.Core.Path.{_≡_}
+use mathlib.Core.List.{List}
+use Prim.Native.Nat.{ℕ, _+_, _<_}
 use native.Mathlib.Nat.{le-refl}
-use native.Mathlib.Omega.{arith}
-use lib.ListN.{length-set}
-use Rattle.bits.proofs.Filling.{Filling, filling-start, filling-step, filling-done}
-use Rattle.bits.proofs.Words.{Rewriting, row-start, row-step, row-done}
-use Rattle.decoder.specs.private.Answer.{flippedAt, plainAt}
-use Rattle.decoder.proofs.Lookups.{passed-on}
-use Rattle.decoder.proofs.Rows.{passed, flagAt, plain-rest}
+use lib.Dec.{lit<}
+use lib.ListN.{length, getD}
+use Rattle.bch.specs.definitions.Code.{remainder}
+use Rattle.decoder_tables.specs.private.Tables.{IsColumns, IsSingleBits, Finds}
+use Rattle.decoder.specs.private.Answer.{MendedAt, plainAt}
+use Rattle.decoder.proofs.Rows.{Mending, mending-start, mending-long, mending-rest, mending-step, mending-done}
 use Rattle.decoder.proofs.mend_eight.Statement.{statement}
 use Rattle.decoder.proofs.mend_eight.Tie as tie
 
-abbrev Inv-loop : tie.InvT-loop
-Inv-loop field log cube one other place column bit rest words₀ flags₀ i₀ words flags i =
-    Rewriting (passed words₀) 8 words₀ words i × Filling (flagAt words₀) 8 flags₀ flags i
+-- the first i words are mended of those that the function was lent
+abbrev Reached : tie.Start → List ℕ → List ℕ → ℕ → Type 0
+Reached b words flags i = Mending 8 (b .args .words .now) (b .args .flags .now) words flags i
 
-abbrev μ-loop : tie.MeasureT-loop
-μ-loop field log cube one other place column bit rest words₀ flags₀ i₀ words flags i = 8 - i
+-- and so it is behind a call that mended its word
+abbrev Behind : tie.Start → {i : ℕ} {words flags words′ flags′ : List ℕ} → MendedAt i words flags words′ flags′ → Type 0
+Behind b {i} {words} {flags} {words′} {flags′} D = Reached b words′ flags′ (i + 1)
 
-find-requires : tie.Need-find-requires Inv-loop μ-loop
-find-requires c κs =
-    let start = c .before .before .before .before .before .before .before .before .before in
-    (start .pre .0, (start .pre .1 .0, c .wide16 .ensures .1))
+-- what the next call asks
+asked : (b : tie.Start) {words flags : List ℕ} {i : ℕ} → Reached b words flags i → i < 8
+    → Finds (b .args .field .now) (b .args .log .now) (b .args .cube .now) (b .args .one .now) (b .args .other .now) (b .args .place .now)
+    × (IsColumns (b .args .column .now)
+    × (IsSingleBits (b .args .bit .now)
+    × (((length (b .args .rest .now) ≡ 8) × (length words ≡ 16) × (length flags ≡ 8) × (i < 8))
+    × (getD (b .args .rest .now) i 0 ≡ remainder 126 (plainAt words i)))))
+asked b M h =
+    let p = b .pre .1 .1 in
+    (b .pre .0, (b .pre .1 .0, (p .0, ((p .1 .0 .0, M .row .numbers .long, M .filled .long, h), mending-rest M (p .1 .1) h))))
 
-flip-requires : tie.Need-flip-requires Inv-loop μ-loop
-flip-requires c κs = (c .before .before .before .before .before .before .before .before .before .before .before .pre .1 .1 .0, c .before .find .ensures .within)
+-- ---- before the first call, and behind each of the eight: where the function began, and how far the words are mended
 
-loop-again : tie.Need-loop-again Inv-loop μ-loop
-unfolding plainAt
-loop-again c =
-    let at = c .before .before .before .before .before .before .before .before .loop in
-    let inside : at .i < 8 = c .before .before .before .before .before .before .before .loop-test .taken in
-    let start = c .before .before .before .before .before .before .before .before .before .before .before .before in
-    let s = start .args .words .now in
-    let f = c .before .before .find in
-    let word = plain-rest (passed s) (at .inv .0) (at .i) (le-refl _) in
-    let d = passed-on (plainAt s (at .i)) (c .before .before .before .wide16 .result) _ _ (f .result)
-    (c .before .before .before .wide16 .ensures .0 ∙ start .pre .1 .1 .1 .1 .remains (at .i) inside) (f .ensures)
-    (c .flip .ensures .0 ∙ ap (λ (w : ℕ). flippedAt w (f .result .places) / 2 ^ 64) word)
-    (c .flip .ensures .1 ∙ ap (λ (w : ℕ). flippedAt w (f .result .places) % 2 ^ 64) word) in (
-      row-step (passed s) (at .inv .0) _ _ inside (d .0) (d .1),
-      filling-step (flagAt s) _ (at .inv .1) inside (d .3),
-    )
+reached0 : (b : tie.Start) → Reached b (b .args .words .now) (b .args .flags .now) 0
+reached0 b = let long = b .pre .1 .1 .1 .0 in mending-start (long .1) (long .2)
+
+abbrev start1 : tie.After-mend-one → tie.Start
+start1 c = c .before .before .before .before .before .before
+
+reached1 : (c : tie.After-mend-one) → Behind (start1 c) (c .mend-one .ensures)
+reached1 c = mending-step (reached0 (start1 c)) (c .mend-one .ensures) (lit< tt)
+
+abbrev start2 : tie.After-mend-one2 → tie.Start
+start2 c = start1 (c .before .before .before .before .before .before .before)
+
+reached2 : (c : tie.After-mend-one2) → Behind (start2 c) (c .mend-one2 .ensures)
+reached2 c = mending-step (reached1 (c .before .before .before .before .before .before .before)) (c .mend-one2 .ensures) (lit< tt)
+
+abbrev start3 : tie.After-mend-one3 → tie.Start
+start3 c = start2 (c .before .before .before .before .before .before .before)
+
+reached3 : (c : tie.After-mend-one3) → Behind (start3 c) (c .mend-one3 .ensures)
+reached3 c = mending-step (reached2 (c .before .before .before .before .before .before .before)) (c .mend-one3 .ensures) (lit< tt)
+
+abbrev start4 : tie.After-mend-one4 → tie.Start
+start4 c = start3 (c .before .before .before .before .before .before .before)
+
+reached4 : (c : tie.After-mend-one4) → Behind (start4 c) (c .mend-one4 .ensures)
+reached4 c = mending-step (reached3 (c .before .before .before .before .before .before .before)) (c .mend-one4 .ensures) (lit< tt)
+
+abbrev start5 : tie.After-mend-one5 → tie.Start
+start5 c = start4 (c .before .before .before .before .before .before .before)
+
+reached5 : (c : tie.After-mend-one5) → Behind (start5 c) (c .mend-one5 .ensures)
+reached5 c = mending-step (reached4 (c .before .before .before .before .before .before .before)) (c .mend-one5 .ensures) (lit< tt)
+
+abbrev start6 : tie.After-mend-one6 → tie.Start
+start6 c = start5 (c .before .before .before .before .before .before .before)
+
+reached6 : (c : tie.After-mend-one6) → Behind (start6 c) (c .mend-one6 .ensures)
+reached6 c = mending-step (reached5 (c .before .before .before .before .before .before .before)) (c .mend-one6 .ensures) (lit< tt)
+
+abbrev start7 : tie.After-mend-one7 → tie.Start
+start7 c = start6 (c .before .before .before .before .before .before .before)
+
+reached7 : (c : tie.After-mend-one7) → Behind (start7 c) (c .mend-one7 .ensures)
+reached7 c = mending-step (reached6 (c .before .before .before .before .before .before .before)) (c .mend-one7 .ensures) (lit< tt)
+
+abbrev start8 : tie.After-mend-one8 → tie.Start
+start8 c = start7 (c .before .before .before .before .before .before .before)
+
+reached8 : (c : tie.After-mend-one8) → Behind (start8 c) (c .mend-one8 .ensures)
+reached8 c = mending-step (reached7 (c .before .before .before .before .before .before .before)) (c .mend-one8 .ensures) (lit< tt)
 
 pub mend-eight-spec : {M : Type 1} → statement M
 mend-eight-spec =
     tie.close
     (tie.spec
-    Inv-loop
-    μ-loop
-    (λ c. let long = c .before .before .before .pre .1 .1 .1 .0 in (row-start _ (long .1), filling-start _ (long .2)))
-    (λ c. omega arith)
-    (λ c. omega arith)
-    (λ c. omega arith)
-    (λ c. omega arith)
-    (λ c. omega arith)
-    (λ c. omega arith)
-    (λ c. omega arith)
-    (λ c. omega arith)
-    (λ c κs. tt)
-    find-requires
-    flip-requires
-    (λ c. omega arith)
-    (λ c. omega arith)
-    (λ c. omega arith)
-    (λ c. omega arith)
-    (λ c. simp length-set (omega arith))
-    (λ c. omega arith)
-    (λ c. omega arith)
-    (λ c. omega arith)
-    loop-again
-    (λ c. omega arith)
-    (λ c. omega arith)
-    (λ c. (row-done _ (c .before .loop .inv .0) (omega arith), filling-done _ (c .before .loop .inv .1) (omega arith))))
+    (λ c κs. let b = c .before .before .before .before .before in asked b (reached0 b) (lit< tt))
+    (λ c κs. let d = c .before .before .before .before .before .before in asked (start1 d) (reached1 d) (lit< tt))
+    (λ c κs. let d = c .before .before .before .before .before .before in asked (start2 d) (reached2 d) (lit< tt))
+    (λ c κs. let d = c .before .before .before .before .before .before in asked (start3 d) (reached3 d) (lit< tt))
+    (λ c κs. let d = c .before .before .before .before .before .before in asked (start4 d) (reached4 d) (lit< tt))
+    (λ c κs. let d = c .before .before .before .before .before .before in asked (start5 d) (reached5 d) (lit< tt))
+    (λ c κs. let d = c .before .before .before .before .before .before in asked (start6 d) (reached6 d) (lit< tt))
+    (λ c κs. let d = c .before .before .before .before .before .before in asked (start7 d) (reached7 d) (lit< tt))
+    (λ c. mending-long (reached8 (c .before .before .before .before)) .0)
+    (λ c. mending-long (reached8 (c .before .before .before .before)) .1)
+    (λ c. mending-done (reached8 (c .before .before .before .before)) (le-refl 8)))

@@ -4,10 +4,10 @@ use mathlib.Core.Path.{_≡_}
 use mathlib.Core.Logic.{_⊎_}
 use mathlib.Core.Bool.{cond}
 use mathlib.Core.List.{List}
-use Prim.Native.Nat.{ℕ, _+_, _*_, _^_, _<_}
+use Prim.Native.Nat.{ℕ, _+_, _*_, _/_, _%_, _^_, _<_}
 use lib.Bits.{bitXor}
 use lib.Dec.{eqb, ltb}
-use lib.ListN.{getD}
+use lib.ListN.{getD, set}
 use Rattle.bits.specs.definitions.Bits.{tabulate}
 use Rattle.bits.specs.definitions.Words.{rowOf}
 use Rattle.bch.specs.definitions.Code.{remainder}
@@ -77,13 +77,25 @@ unfoldable pub plainAt : List ℕ → ℕ → ℕ
 plainAt s i = getD s (2 * i) 0 * 2 ^ 64 + getD s (2 * i + 1) 0
 
 -- rest has the remainders of the n words of s
-pub record Measured (n : ℕ) (s rest : List ℕ) : Type 0 where
+pub record HasRemainders (n : ℕ) (s rest : List ℕ) : Type 0 where
   pub remains : (i : ℕ) → i < n → getD rest i 0 ≡ remainder 126 (plainAt s i)
+
+-- what word i of a row is passed on as, and its flag byte
+abbrev pub passed : List ℕ → ℕ → ℕ
+passed s i = mended (plainAt s i) (mend (plainAt s i))
+
+abbrev pub flagAt : List ℕ → ℕ → ℕ
+flagAt s i = flagOf (mend (plainAt s i))
+
+-- word i of the row s and its flag byte among flags are mended, and nothing else is changed
+pub record MendedAt (i : ℕ) (s flags s′ flags′ : List ℕ) : Type 0 where
+  pub word : s′ ≡ set (set s (2 * i) (passed s i / 2 ^ 64)) (2 * i + 1) (passed s i % 2 ^ 64)
+  pub flag : flags′ ≡ set flags i (flagAt s i)
 
 -- n words as they are passed on
 abbrev pub mendedRow : ℕ → List ℕ → List ℕ
-mendedRow n s = rowOf n (λ i. mended (plainAt s i) (mend (plainAt s i)))
+mendedRow n s = rowOf n (passed s)
 
 -- and their flag bytes
 abbrev pub flagsRow : ℕ → List ℕ → List ℕ
-flagsRow n s = tabulate n (λ i. flagOf (mend (plainAt s i)))
+flagsRow n s = tabulate n (flagAt s)
