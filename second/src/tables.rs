@@ -3,7 +3,7 @@
 //! `files` gives each file whole, with its comments, as it stands below crates/.
 
 use crate::lanes::{BLOCK_BYTES, SYMBOL_BITS};
-use crate::symbols::{source, PILOTS, PILOT_COUNT};
+use crate::symbols::{PILOTS, PILOT_COUNT};
 use crate::word::{only_bit, parity, remainder, split, PARITY_BITS, WORD_BITS};
 
 /// A table: its names as code and as list, and the rule of its entries.
@@ -41,7 +41,7 @@ const OF_PROOFS: Lists = Lists {
     of_list: None,
 };
 
-static PAIRS: [Pair; 5] = [
+static PAIRS: [Pair; 4] = [
     Pair {
         folder: "bch",
         comment: "The table of the parity. Written by the program `tables` of second/; \
@@ -181,22 +181,6 @@ static PAIRS: [Pair; 5] = [
             line: 16,
         }],
     },
-    Pair {
-        folder: "mapper_tables",
-        comment: "The table of the mapping. Written by the program `tables` of second/; \
-            proofs/Entries has its rule, by a test over the whole of it.",
-        lists: OF_PROOFS,
-        tables: &[Table {
-            comment: "The four lanes' dibits in the byte x of symbol l, in fields of 16 bits, lane 0 on \
-                top: at 256 l + x.",
-            name: "DIBITS",
-            element: "u64",
-            length: 4 * 256,
-            entry: dibits_of_symbol,
-            list: "dibits",
-            line: 8,
-        }],
-    },
 ];
 
 /// Every file: its path below crates/, and its text.
@@ -320,29 +304,10 @@ fn bits_of_places(at: usize) -> u64 {
     })
 }
 
-/// From dibit to label at symbol l, and from label to dibit: both exchange the two bits or neither.
-fn turned(l: usize, bits: u64) -> u64 {
-    let (_, places) = source(l, 0);
-    places
-        .into_iter()
-        .fold(0, |sum, place| sum << 1 | bits >> (1 - place % 2) & 1)
-}
-
-fn dibits_of_symbol(at: usize) -> u64 {
-    let (l, symbol) = (at / 256, at as u8);
-    (0..4).fold(0, |dibits, t| {
-        let label = symbol >> (6 - 2 * t) & 3;
-        dibits | turned(l, label.into()) << (48 - 16 * source(l, t).0)
-    })
-}
-
 #[cfg(test)]
 mod tests {
     use super::*;
     use crate::lanes::{permute, LANES_BYTES};
-    use crate::symbols::{frame, shuffle, FRAME_SYMBOLS, ROW_PAYLOAD, ROW_SYMBOLS};
-    use crate::word::{encode_frame, join, FRAME_WORDS};
-    use crate::xorshift::Xorshift;
 
     fn entries(name: &str) -> Vec<u64> {
         let mut tables = PAIRS.iter().flat_map(|pair| pair.tables);
@@ -414,31 +379,6 @@ mod tests {
             permute(&mut lanes, places as u8);
             for block in lanes[..LANES_BYTES / 2].chunks(BLOCK_BYTES) {
                 assert!(block.iter().map(|&byte| u64::from(byte)).eq(mask.to_vec()));
-            }
-        }
-    }
-
-    #[test]
-    fn dibits_are_those_of_the_words() {
-        let dibits = entries("DIBITS");
-        let mut random = Xorshift::new(81);
-        let mut words = [0; 2 * FRAME_WORDS];
-        words.fill_with(|| random.next_u64());
-        encode_frame(&mut words);
-        let mut symbols = [0; FRAME_SYMBOLS];
-        frame(&words, &mut symbols);
-        let rows = symbols.chunks(ROW_SYMBOLS).zip(words.chunks(8));
-        for (row, (symbols, four)) in rows.enumerate() {
-            let g = row % 8;
-            let words =
-                [0, 1, 2, 3].map(|r| shuffle(4 * g + r, join(four[2 * r], four[2 * r + 1])));
-            for (j, symbol) in symbols[1..].iter().enumerate() {
-                let l = (ROW_PAYLOAD * g + j) % 4;
-                let held = dibits[256 * l + usize::from(*symbol)];
-                for (r, word) in words.iter().enumerate() {
-                    let dibit = (word >> (124 - 2 * j)) as u64 & 3;
-                    assert_eq!(held >> (48 - 16 * r) & 0xFFFF, dibit);
-                }
             }
         }
     }

@@ -61,9 +61,7 @@ fn mended_words(input: &[u8], words: &mut [u64; 768], flags: &mut [u8; 384])
     requires { ⌜ length (now input) ≡ 6144 ⌝ }
     ensures { λ _. ⌜ (now (words .exit) ≡ receivedWords (now (input .entry))) × (now (flags .exit) ≡ receivedFlags (now (input .entry))) ⌝ }
 {
-    let mut frame = [0u8; 6144];
-    bits::copy(input, &mut frame);
-    symbols::words_from_frame(&frame, words);
+    symbols::words_from_frame(input, words);
     decoder::decode_frame(words, flags);
 }
 

@@ -6,21 +6,21 @@ use mathlib.Core.Logic.{_≢_}
 use mathlib.Core.Bool.{cond}
 use mathlib.Core.List.{List}
 use Prim.Native.Nat.{ℕ, _+_, _-_, _*_, _/_, _%_, _^_, _<_, _≤_}
-use native.Mathlib.Nat.{one-mul, mod-lt, mod-eq-of-lt, mul-le-mul-left, le-of-lt, not-suc-le-zero, div-div-eq-div-mul}
+use native.Mathlib.Nat.{one-mul, mod-eq-of-lt, mul-le-mul-left, le-of-lt, not-suc-le-zero, div-div-eq-div-mul}
 use native.Mathlib.Decide.{decLt, ℕ-discrete}
 use native.Mathlib.Omega.{arith}
 use lib.Arith.{digits-lt, digits-div, digits-mod}
 use lib.Pow.{pow-lt, pow-pos, pow-add, field, mod-mod-pow}
 use lib.Bits.{bitAnd, bitOr}
-use lib.Dec.{eqb, ltb, lit<}
+use lib.Dec.{eqb, ltb}
 use lib.ListN.{length, getD, set, length-set}
 use lib.Seq.{getD-set-same, getD-set-other}
 use borrow.Author.Tests.{lt-ltb, le-ltb}
-use Rattle.bits.specs.definitions.Bits.{value, number, bitOf}
+use Rattle.bits.specs.definitions.Bits.{number, bitOf}
 use Rattle.bits.specs.definitions.Words.{wordAt, rowOf, halfOf, wordBytes}
 use Rattle.bits.specs.definitions.Put.{Put}
-use Rattle.bits.proofs.Value.{value-cong, value-lt, value-append, value-top, value-low, value-digit, bit-lt, number-bits}
-use Rattle.bits.proofs.Joins.{cross-lt, cross-bits, byte-pow, put-byte}
+use Rattle.bits.proofs.Value.{value-cong, value-lt, value-append, value-top, value-low, bit-lt, number-bits}
+use Rattle.bits.proofs.Joins.{cross-lt, cross-bits, put-byte}
 use Rattle.bits.proofs.Tabulate.{is-tabulate}
 use Rattle.bits.proofs.Words.{row-at}
 use Rattle.shuffle.specs.private.Rotation.{rotatedFrom, rotated, crossed, rotatedFirst, Holds, HoldsBytes, LaneRotated, rotatedRow}

@@ -12,6 +12,8 @@ use Rattle.symbols.proofs.words_from_frame.Reads as words-reads
 pub frame-from-words-determined : Fixes 2 frame-kinds.ps frame-kinds.r frame-reads.Post (λ κs s t. now (s .1 .0) ≡ now (t .1 .0))
 frame-from-words-determined κs a x y s t p q = (refl, p ∙ sym q)
 
--- no result, and the words at exit
+-- whether it was done, and the words at exit
 pub words-from-frame-determined : Fixes 2 words-kinds.ps words-kinds.r words-reads.Post (λ κs s t. now (s .1 .0) ≡ now (t .1 .0))
-words-from-frame-determined κs a x y s t p q = (refl, p ∙ sym q)
+words-from-frame-determined κs a x y s t p q =
+    let e = p .done ∙ sym (q .done) in
+    (e, rw (p .words, q .words, e))

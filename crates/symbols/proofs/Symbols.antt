@@ -8,7 +8,7 @@ use native.Mathlib.Nat.{pow-suc, mul-suc, mod-lt, div-div-eq-div-mul, add-mul-mo
 use native.Mathlib.Decide.{ℕ-discrete, decLt}
 use native.Mathlib.Omega.{arith}
 use lib.Dec.{T, eqb, ltb, eqb→eq, ltb→lt, lit<}
-use lib.ListN.{length, getD, set, take, drop, length-set, length-take, length-drop}
+use lib.ListN.{length, getD, set, take, drop, length-set}
 use lib.Seq.{getD-set-same, getD-set-other}
 use lib.Pow.{pow-add, shl-exact, field, mod-mod-pow}
 use borrow.Author.Tests.{eq-eqb, ne-eqb, lt-ltb, le-ltb}
@@ -16,15 +16,14 @@ use Rattle.bits.specs.definitions.Bits.{tabulate, value, number, bitOf}
 use Rattle.bits.specs.definitions.Words.{wordAt, rowOf, wordBytes}
 use Rattle.bits.proofs.Table.{each, range-rule, and-left, and-right}
 use Rattle.bits.proofs.Tabulate.{getD-tabulate, tabulate-cong, is-tabulate}
-use Rattle.bits.proofs.Filling.{Filling, filling-at, filling-put}
+use Rattle.bits.proofs.Filling.{Filling, filling-start, filling-at, filling-put, filling-done}
 use Rattle.bits.proofs.Value.{value-cong, value-lt, bit-lt, bit-number}
 use Rattle.bits.proofs.Words.{row-at}
 use Rattle.shuffle.specs.definitions.Shuffle.{unplace, shuffled}
 use Rattle.symbols.specs.definitions.Mapping.{laneOf, upper, lower}
 use Rattle.pilots.specs.definitions.Table5.{pilots}
 use Rattle.symbols.specs.definitions.Frame.{carriedBit, payload, symbolAt, frameOf}
-use Rattle.mapper_tables.specs.private.Tables.{laneIn, tributaryIn, mapped}
-use Rattle.symbols.specs.private.Numbers.{dibitIn, dibitsAt, swapped, quarterAt, byteOfTwo}
+use Rattle.symbols.specs.private.Numbers.{laneIn, tributaryIn, mapped, dibitIn, dibitsAt, swapped, quarterAt, byteOfTwo}
 
 -- ---- a symbol's number by its remainder
 
@@ -39,12 +38,15 @@ lane-mod l t =
     let e : 2 * l + l / 2 % 2 + t ≡ 2 * (l % 4) + l % 4 / 2 % 2 + t + 2 * (l / 4) * 4 = omega arith in
     omega arith
 
+-- numbers that differ by fours
+pub fours : (x y k : ℕ) → y ≡ x + k * 4 → x % 4 ≡ y % 4
+fours x y k e = sym (ap (λ (n : ℕ). n % 4) e ∙ add-mul-mod-self-right x k 4)
+
 pub tributary-mod : (l r : ℕ) → tributaryIn (l % 4) r ≡ tributaryIn l r
 unfolding tributaryIn
 tributary-mod l r =
     let p : l / 2 % 2 ≡ l % 4 / 2 % 2 = omega arith in
-    let e : r + 3 * (2 * l + l / 2 % 2) ≡ r + 3 * (2 * (l % 4) + l % 4 / 2 % 2) + 6 * (l / 4) * 4 = omega arith in
-    sym (ap (λ (n : ℕ). n % 4) e ∙ add-mul-mod-self-right (r + 3 * (2 * (l % 4) + l % 4 / 2 % 2)) (6 * (l / 4)) 4)
+    fours (r + 3 * (2 * (l % 4) + l % 4 / 2 % 2)) (r + 3 * (2 * l + l / 2 % 2)) (6 * (l / 4)) (omega arith)
 
 mapped-mod : (l y : ℕ) → mapped (l % 4) y ≡ mapped l y
 unfolding mapped
@@ -182,6 +184,10 @@ byte-dibit w k e hk he =
     (div-div-eq-div-mul w (2 ^ (8 * (15 - k))) (2 ^ (2 * (3 - e)))
     ∙ ap (λ (n : ℕ). w / n) (sym (pow-add 2 (8 * (15 - k)) (2 * (3 - e)))) ∙ ap (λ (n : ℕ). w / 2 ^ n) d)
 
+-- the number of symbol 4 k + e of row g, and that without what goes by fours
+pub counted-row : (g k e : ℕ) → (3 * g + 3 + e) % 4 ≡ (63 * g + 3 + (4 * k + e)) % 4
+counted-row g k e = fours (3 * g + 3 + e) (63 * g + 3 + (4 * k + e)) (15 * g + k) (omega arith)
+
 -- symbol 4 k + e of row g, the pilot's place being its first
 row-symbol : (s : List ℕ) (g k e : ℕ) → g < 96 → k < 16 → e < 4
     → quarterAt (wordBytes 384 s) e (16 * g + k) ≡ symbolFrom 64 (63 * g + 3) (λ r. wordAt s (4 * g + r)) (4 * k + e)
@@ -189,7 +195,7 @@ unfolding quarterAt dibitsAt
 row-symbol s g k e hg hk he =
     let d : (16 * g + k) / 16 ≡ g = omega arith in
     let m : (16 * g + k) % 16 ≡ k = omega arith in
-    let q : (3 * ((16 * g + k) / 16) + 3 + e) % 4 ≡ (63 * g + 3 + (4 * k + e)) % 4 = number (16 * g + k) d in
+    let q : (3 * ((16 * g + k) / 16) + 3 + e) % 4 ≡ (63 * g + 3 + (4 * k + e)) % 4 = ap (λ (n : ℕ). (3 * n + 3 + e) % 4) d ∙ counted-row g k e in
     ap (λ (l : ℕ). mapped l (dibitsAt (wordBytes 384 s) e (64 * ((16 * g + k) / 16) + (16 * g + k) % 16))) q
     ∙ mapped-mod (63 * g + 3 + (4 * k + e)) _
     ∙ symbol-law 64 (4 * k + e) (λ r. wordAt s (4 * g + r)) (63 * g + 3) _ (omega arith)
@@ -197,11 +203,6 @@ row-symbol s g k e hg hk he =
     ∙ λ x. dibit 0 (64 * g + k) (omega arith) (omega arith) x * 64 + dibit 1 (64 * g + k + 16) (omega arith) (omega arith) x * 16
     + dibit 2 (64 * g + k + 32) (omega arith) (omega arith) x * 4 + dibit 3 (64 * g + k + 48) (omega arith) (omega arith) x)
   where
-    number : (j : ℕ) → j / 16 ≡ g → (3 * (j / 16) + 3 + e) % 4 ≡ (63 * g + 3 + (4 * k + e)) % 4
-    number j d =
-        let f : 63 * g + 3 + (4 * k + e) ≡ 3 * (j / 16) + 3 + e + (15 * g + k) * 4 = omega arith in
-        sym (ap (λ (n : ℕ). n % 4) f ∙ add-mul-mod-self-right (3 * (j / 16) + 3 + e) (15 * g + k) 4)
-
     dibit : (r n : ℕ) → r < 4 → n ≡ 16 * (4 * g + r) + k → dibitIn e (getD (wordBytes 384 s) n 0) ≡ wordAt s (4 * g + r) / 2 ^ (2 * (64 - (4 * k + e + 1))) % 4
     dibit r n h o =
         ap (dibitIn e) (ap (λ (m : ℕ). getD (wordBytes 384 s) m 0) o ∙ word-byte s (4 * g + r) k (omega arith) hk) ∙ byte-dibit (wordAt s (4 * g + r)) k e hk he
@@ -235,12 +236,9 @@ module _ (g j : ℕ) (h : g < 96) (b : j < 63) where
       go (yes e) = rw (eq-eqb (i % 2) 0 e) (omega arith)
       go (no e) = rw (ne-eqb (i % 2) 0 e) (omega arith)
 
--- symbol x of half u of a row, behind the pilot: its number, counted in each half from 63 g + 3 on, and that among the 504 have the same remainder
-pub counted-mod : (g u x : ℕ) → 1 ≤ 32 * u + x → (g * 63 + 3 + x) % 4 ≡ (g % 8 * 63 + (32 * u + x - 1)) % 4
-counted-mod g u x behind =
-    let e : g * 63 + 3 + x + 8 * u * 4 ≡ g % 8 * 63 + (32 * u + x - 1) + (126 * (g / 8) + 1) * 4 = omega arith in
-    sym (add-mul-mod-self-right (g * 63 + 3 + x) (8 * u) 4) ∙ ap (λ (n : ℕ). n % 4) e
-    ∙ add-mul-mod-self-right (g % 8 * 63 + (32 * u + x - 1)) (126 * (g / 8) + 1) 4
+-- symbol j of a row, behind the pilot: its number, counted from 63 g + 3 on, and that among the 504 have the same remainder
+pub counted-mod : (g j : ℕ) → 1 ≤ j → (63 * g + 3 + j) % 4 ≡ (g % 8 * 63 + (j - 1)) % 4
+counted-mod g j behind = sym (fours (g % 8 * 63 + (j - 1)) (63 * g + 3 + j) (126 * (g / 8) + 1) (omega arith))
 
 counted-even : (i a b : ℕ) → a % 4 ≡ b % 4 → (i + a) % 2 ≡ (i + b) % 2
 counted-even i a b e = omega arith
@@ -260,10 +258,7 @@ module _ (s : List ℕ) (g j : ℕ) (h : g < 96) (hj : j < 64) (behind : 1 ≤ j
   symbol = g % 8 * 63 + (j - 1)
 
   same-mod : counted % 4 ≡ symbol % 4
-  same-mod =
-      let p : 63 * g + 3 + j ≡ g * 63 + 3 + j = omega arith in
-      let q : g % 8 * 63 + (32 * 0 + j - 1) ≡ g % 8 * 63 + (j - 1) = omega arith in
-      ap (λ (n : ℕ). n % 4) p ∙ counted-mod g 0 j (omega arith) ∙ ap (λ (n : ℕ). n % 4) q
+  same-mod = counted-mod g j behind
 
   counted-lane : (t : ℕ) → laneIn counted t ≡ laneIn symbol t
   counted-lane t = sym (lane-mod counted t) ∙ ap (λ (l : ℕ). laneIn l t) same-mod ∙ lane-mod symbol t
@@ -334,24 +329,44 @@ frame-is s b f e q =
 abbrev pub putPart : ℕ → ℕ → List ℕ → List ℕ → List ℕ
 putPart o end out part = take o out ++ (part ++ drop (end - o) (drop o out))
 
--- row g of a quarter is lent, and filled
-pub quarter-step : (b : List ℕ) (e g l at o end : ℕ) {out₀ out part : List ℕ} → g < 96 → o ≡ 16 * g → end ≡ o + 16 → at ≡ 64 * g → l % 4 ≡ (3 * g + 3 + e) % 4
-    → Filling (quarterAt b e) 1536 out₀ out o
+-- row g, of four, of a quarter is lent, and filled
+quarter-step : (b : List ℕ) (e q g l at o end : ℕ) {n : ℕ} {out₀ out part : List ℕ} → o ≡ 16 * g → end ≡ o + 16 → end ≤ n → at ≡ 256 * q + 64 * g
+    → l % 4 ≡ (3 * g + 3 + e) % 4
+    → Filling (λ i. quarterAt b e (64 * q + i)) n out₀ out o
     → part ≡ tabulate (length (take (end - o) (drop o out))) (λ i. mapped l (dibitsAt b e (at + i)))
-    → Filling (quarterAt b e) 1536 out₀ (putPart o end out part) end
+    → Filling (λ i. quarterAt b e (64 * q + i)) n out₀ (putPart o end out part) end
 unfolding quarterAt
-quarter-step b e g l at o end {out₀} {out} {part} h eo ee ea el F p =
-    filling-put (quarterAt b e) end part (λ _ i. mapped l (dibitsAt b e (at + i))) F (omega arith) (omega arith) p row
+quarter-step b e q g l at o end {n} {out₀} {out} {part} eo ee le ea el F p =
+    filling-put _ end part (λ _ i. mapped l (dibitsAt b e (at + i))) F (omega arith) le p row
   where
-    row : (k : ℕ) → k < end - o → mapped l (dibitsAt b e (at + k)) ≡ quarterAt b e (o + k)
-    row k c =
-        let d : g ≡ (o + k) / 16 = omega arith in
-        let m : at + k ≡ 64 * ((o + k) / 16) + (o + k) % 16 = omega arith in
-        sym (mapped-mod l _)
-        ∙ (λ x. mapped ((el ∙ ap (λ (n : ℕ). (3 * n + 3 + e) % 4) d) x) (dibitsAt b e (m x)))
+    number : (a : ℕ) → a ≡ 4 * q + g → l % 4 ≡ (3 * a + 3 + e) % 4
+    number a h = el ∙ fours (3 * g + 3 + e) (3 * a + 3 + e) (3 * q) (omega arith)
 
-pub row-long : (s : List ℕ) (o end : ℕ) → length s ≡ 1536 → end ≡ o + 16 → end ≤ 1536 → length (take (end - o) (drop o s)) ≡ 16
-row-long s o end e q h = simp (length-take, length-drop) (omega arith)
+    row : (k : ℕ) → k < end - o → mapped l (dibitsAt b e (at + k)) ≡ quarterAt b e (64 * q + (o + k))
+    row k c =
+        let j = 64 * q + (o + k) in
+        let d : j / 16 ≡ 4 * q + g = omega arith in
+        let m : at + k ≡ 64 * (j / 16) + j % 16 = omega arith in
+        sym (mapped-mod l _)
+        ∙ (λ x. mapped (number (j / 16) d x) (dibitsAt b e (m x)))
+
+-- four rows, one after another
+pub quarter-four : (b : List ℕ) (e q n : ℕ) (out : List ℕ) {a₀ a₁ a₂ a₃ : List ℕ} → length out ≡ n → n ≡ 64 → e < 4
+    → let out₁ = putPart 0 16 out a₀ in
+    let out₂ = putPart 16 32 out₁ a₁ in
+    let out₃ = putPart 32 48 out₂ a₂ in
+    a₀ ≡ tabulate (length (take 16 (drop 0 out))) (λ i. mapped ((e + 3) % 4) (dibitsAt b e (256 * q + i)))
+    → a₁ ≡ tabulate (length (take 16 (drop 16 out₁))) (λ i. mapped ((e + 2) % 4) (dibitsAt b e (256 * q + 64 + i)))
+    → a₂ ≡ tabulate (length (take 16 (drop 32 out₂))) (λ i. mapped ((e + 1) % 4) (dibitsAt b e (256 * q + 128 + i)))
+    → a₃ ≡ tabulate (length (take 16 (drop 48 out₃))) (λ i. mapped e (dibitsAt b e (256 * q + 192 + i)))
+    → putPart 48 64 out₃ a₃ ≡ tabulate n (λ i. quarterAt b e (64 * q + i))
+quarter-four b e q n out l h he p₀ p₁ p₂ p₃ =
+    filling-done _
+    (quarter-step b e q 3 e (256 * q + 192) 48 64 refl refl (omega arith) refl (omega arith)
+    (quarter-step b e q 2 ((e + 1) % 4) (256 * q + 128) 32 48 refl refl (omega arith) refl (omega arith)
+    (quarter-step b e q 1 ((e + 2) % 4) (256 * q + 64) 16 32 refl refl (omega arith) refl (omega arith)
+    (quarter-step b e q 0 ((e + 3) % 4) (256 * q) 0 16 refl refl (omega arith) (omega arith) (omega arith) (filling-start _ {out₀ = out} l) p₀) p₁) p₂) p₃)
+    (omega arith)
 
 -- four bytes of two numbers
 pub two-bytes-step : (x y : List ℕ) {out₀ out : List ℕ} (i v w : ℕ) → i < 1536 → v ≡ getD x i 0 → w ≡ getD y i 0 → v < 65536 → w < 65536

@@ -6,13 +6,12 @@ ghost use mathlib.Core.Path.{_≡_};
 ghost use mathlib.Core.Bool.{cond};
 ghost use Prim.Native.Nat.{_<_, _≤_, _+_, _*_, _-_, _/_, _%_, _^_};
 ghost use lib.Dec.{eqb};
-ghost use lib.ListN.{getD, length, drop};
-ghost use Rattle.bits.specs.definitions.Bits.{tabulate};
+ghost use lib.ListN.{getD, length};
+ghost use Rattle.bits.specs.definitions.Bits.{tabulate, fieldAt};
 ghost use Rattle.pilots.specs.definitions.Table5.{pilots};
-ghost use Rattle.mapper_tables.specs.private.Tables.{mapped, IsDibits, dibitsOf};
-ghost use Rattle.symbols.specs.definitions.Frame.{frameOf, wordsOf};
-ghost use Rattle.symbols.specs.private.Numbers.{dibitIn, dibitsAt, swapped, quarterAt, byteOfTwo};
-ghost use Rattle.symbols.specs.private.Numbers.{Room, quadOf, fieldsOf, joined, quadPut, gatheredAt};
+ghost use Rattle.symbols.specs.definitions.Frame.{frameOf, wordsOf, ReadsFrame};
+ghost use Rattle.symbols.specs.private.Numbers.{mapped, dibitIn, dibitsAt, swapped, quarterAt, byteOfTwo};
+ghost use Rattle.symbols.specs.private.Numbers.{dibitOf, gathered, partedAt, halvesAt, gatheredFrom, rowsAt, gatheredAt};
 
 // Each dibit of a byte with its two bits swapped.
 fn swapped(x: u8) -> u8
@@ -61,23 +60,28 @@ fn row_quarter(b: &[u8; 6144], at: usize, e: u8, l: u8, out: &mut [u8])
     }
 }
 
-// Every fourth symbol of a frame, from symbol e on: four rows at a time, since what a row's first symbol is goes round by four. Compiled for a literal e.
+// The same of the four rows from row 4 q on: what a row's first symbol is goes round by four.
+fn four_quarters(b: &[u8; 6144], q: usize, e: u8, out: &mut [u8])
+    requires { ⌜ (q < 24) × (e < 4) × (length (now out) ≡ 64) ⌝ }
+    ensures { λ _. ⌜ now (out .exit) ≡ tabulate (length (now (out .entry))) (λ i. quarterAt (now (b .entry)) e (64 * q + i)) ⌝ }
+{
+    let at = 256 * q;
+    row_quarter(b, at, e, (e + 3) % 4, &mut out[0..16]);
+    row_quarter(b, at + 64, e, (e + 2) % 4, &mut out[16..32]);
+    row_quarter(b, at + 128, e, (e + 1) % 4, &mut out[32..48]);
+    row_quarter(b, at + 192, e, e, &mut out[48..64]);
+}
+
+// Every fourth symbol of a frame, from symbol e on. Compiled for a literal e.
 fn quarter(b: &[u8; 6144], e: u8, out: &mut [u8])
     requires { ⌜ (e < 4) × (length (now out) ≡ 1536) ⌝ }
     ensures { λ _. ⌜ now (out .exit) ≡ tabulate 1536 (quarterAt (now (b .entry)) e) ⌝ }
 {
     let mut q: usize = 0;
     while q < 24 {
-        let at = 256 * q;
         let o = 64 * q;
-        let o1 = o + 16;
-        let o2 = o + 32;
-        let o3 = o + 48;
-        let o4 = o + 64;
-        row_quarter(b, at, e, (e + 3) % 4, &mut out[o..o1]);
-        row_quarter(b, at + 64, e, (e + 2) % 4, &mut out[o1..o2]);
-        row_quarter(b, at + 128, e, (e + 1) % 4, &mut out[o2..o3]);
-        row_quarter(b, at + 192, e, e, &mut out[o3..o4]);
+        let end = o + 64;
+        four_quarters(b, q, e, &mut out[o..end]);
         q += 1;
     }
 }
@@ -163,105 +167,215 @@ pub fn frame_from_words(words: &[u64; 768], frame: &mut [u8; 6144])
     put_pilots(&p, frame);
 }
 
-// A number of each of four lanes.
-struct Quad {
-    a: u64,
-    b: u64,
-    c: u64,
-    d: u64,
-}
-
-// The four lanes' dibits of symbol l, in fields of 16 bits.
-fn dibits(t: &[u64; 1024], x: u8, l: usize) -> u64
-    requires { ⌜ IsDibits (now t) ⌝ }
-    ensures { λ r. ⌜ r ≡ dibitsOf l x ⌝ }
+// The dibit of lane q, of the row's four, in the byte of symbol l, put at dibit e.
+fn lane_dibit(x: u8, l: u8, q: u8, e: u8) -> u8
+    requires { ⌜ (l < 4) × (q < 4) × (e < 4) ⌝ }
+    ensures { λ r. ⌜ r ≡ dibitOf l q x * 4 ^ (3 - e) ⌝ }
 {
-    let k = 256 * (l % 4) + (x as usize);
-    t[k]
-}
-
-// Those of eight symbols from place at on, the first of which is number l, side by side in each field.
-fn block(t: &[u64; 1024], s: &[u8], at: usize, l: usize) -> u64
-    requires { ⌜ IsDibits (now t) ⌝ }
-    requires { ⌜ (at + 8 ≤ length (now s)) × (l < 65536) ⌝ }
-    ensures { λ r. ⌜ r ≡ fieldsOf 8 l (drop at (now (s .entry))) ⌝ }
-{
-    let mut v: u64 = 0;
-    let mut j: usize = 0;
-    while j < 8 {
-        v = v * 4 + dibits(t, s[at + j], l + j);
-        j += 1;
+    let f = 3 * (2 * l + l / 2 % 2);
+    let t = (q + f) % 4;
+    if l % 2 == 1 {
+        return put_dibit(swapped(x), t, e);
     }
-    v
+    put_dibit(x, t, e)
 }
 
-// Four numbers with the four fields behind them.
-fn join(q: Quad, v: u64) -> Quad
-    requires { ⌜ Room q ⌝ }
-    ensures { λ r. ⌜ r ≡ joined q v ⌝ }
+// A byte of the word of lane q from four symbols, of which the first is symbol l.
+fn lane_byte(a: u8, b: u8, c: u8, d: u8, l: u8, q: u8) -> u8
+    requires { ⌜ (l < 4) × (q < 4) ⌝ }
+    ensures { λ r. ⌜ r ≡ gathered l q a b c d ⌝ }
 {
-    Quad {
-        a: q.a * 65536 + v / bits::TWO_48,
-        b: q.b * 65536 + v / bits::TWO_32 % 65536,
-        c: q.c * 65536 + v / 65536 % 65536,
-        d: q.d * 65536 + v % 65536,
-    }
+    let w = lane_dibit(a, l, q, 0);
+    let x = lane_dibit(b, (l + 1) % 4, q, 1);
+    let y = lane_dibit(c, (l + 2) % 4, q, 2);
+    let z = lane_dibit(d, (l + 3) % 4, q, 3);
+    w + x + y + z
 }
 
-// The four lanes' numbers in 32 symbols from place at on, the first of which is number l.
-fn gather(t: &[u64; 1024], s: &[u8], at: usize, l: usize) -> Quad
-    requires { ⌜ IsDibits (now t) ⌝ }
-    requires { ⌜ (at + 32 ≤ length (now s)) × (l < 6144) ⌝ }
-    ensures { λ r. ⌜ r ≡ quadOf 32 l (drop at (now (s .entry))) ⌝ }
+// The four words of a row, sixteen bytes each. Its symbols stand in four lists in s, 256 each, one symbol in each in turn, from place at on; those of the first
+// are symbol l, of four. Compiled for a literal l.
+fn row_words(s: &[u8; 1024], at: usize, l: u8, out: &mut [u8])
+    requires { ⌜ (at + 16 ≤ 256) × (l < 4) × (length (now out) ≡ 64) ⌝ }
+    ensures { λ _. ⌜ now (out .exit) ≡ tabulate (length (now (out .entry))) (λ i. gatheredFrom (now (s .entry)) l (i / 16) (at + i % 16)) ⌝ }
 {
-    let mut q = Quad {
-        a: 0,
-        b: 0,
-        c: 0,
-        d: 0,
-    };
-    let mut n: usize = 0;
-    while n < 32 {
-        let v = block(t, s, at + n, l + n);
-        q = join(q, v);
-        n += 8;
-    }
-    q
-}
-
-// Four numbers put into a row, every other from place o on.
-fn put_quad(q: Quad, o: usize, out: &mut [u64])
-    requires { ⌜ o + 6 < length (now out) ⌝ }
-    ensures { λ _. ⌜ now (out .exit) ≡ quadPut q o (now (out .entry)) ⌝ }
-{
-    out[o] = q.a;
-    out[o + 2] = q.b;
-    out[o + 4] = q.c;
-    out[o + 6] = q.d;
-}
-
-// The words of a frame, with their bits at their places: of each 32 symbols, the upper or the lower numbers of four words.
-fn gather_words(t: &[u64; 1024], frame: &[u8], words: &mut [u64])
-    requires { ⌜ IsDibits (now t) ⌝ }
-    requires { ⌜ (length (now frame) ≡ 6144) × (length (now words) ≡ 768) ⌝ }
-    ensures { λ _. ⌜ now (words .exit) ≡ tabulate 768 (gatheredAt (now (frame .entry))) ⌝ }
-{
-    let mut h: usize = 0;
-    while h < 192 {
-        let l = h / 2 * 63 + 3;
-        let q = gather(t, frame, h * 32, l);
-        let o = h / 2 * 8 + h % 2;
-        put_quad(q, o, words);
-        h += 1;
+    let mut i: usize = 0;
+    while i < 16 {
+        let m = at + i;
+        let a = s[m];
+        let b = s[m + 512];
+        let c = s[m + 256];
+        let d = s[m + 768];
+        out[i] = lane_byte(a, b, c, d, l, 0);
+        out[16 + i] = lane_byte(a, b, c, d, l, 1);
+        out[32 + i] = lane_byte(a, b, c, d, l, 2);
+        out[48 + i] = lane_byte(a, b, c, d, l, 3);
+        i += 1;
     }
 }
 
-// The 384 words of a frame; its pilots are not looked at.
-pub fn words_from_frame(frame: &[u8; 6144], words: &mut [u64; 768])
+// The words of the four rows from row 4 q on: what a row's first symbol is goes round by four.
+fn four_rows(s: &[u8; 1024], q: usize, out: &mut [u8])
+    requires { ⌜ (q < 4) × (length (now out) ≡ 256) ⌝ }
+    ensures { λ _. ⌜ now (out .exit) ≡ tabulate (length (now (out .entry))) (λ i. rowsAt (now (s .entry)) (256 * q + i)) ⌝ }
+{
+    let at = 64 * q;
+    row_words(s, at, 3, &mut out[0..64]);
+    row_words(s, at + 16, 2, &mut out[64..128]);
+    row_words(s, at + 32, 1, &mut out[128..192]);
+    row_words(s, at + 48, 0, &mut out[192..256]);
+}
+
+// The words of sixteen rows.
+fn rows(s: &[u8; 1024], out: &mut [u8])
+    requires { ⌜ length (now out) ≡ 1024 ⌝ }
+    ensures { λ _. ⌜ now (out .exit) ≡ tabulate 1024 (rowsAt (now (s .entry))) ⌝ }
+{
+    let mut q: usize = 0;
+    while q < 4 {
+        let o = 256 * q;
+        let end = o + 256;
+        four_rows(s, q, &mut out[o..end]);
+        q += 1;
+    }
+}
+
+// Bytes two by two, each two in a number.
+fn pairs(s: &[u8], out: &mut [u16])
+    requires { ⌜ length (now s) ≡ 2 * length (now out) ⌝ }
+    ensures { λ _. ⌜ now (out .exit)
+        ≡ tabulate (length (now (out .entry))) (λ i. getD (now (s .entry)) (2 * i) 0 + getD (now (s .entry)) (2 * i + 1) 0 * 256) ⌝ }
+{
+    let n = out.len();
+    let mut i: usize = 0;
+    while i < n {
+        out[i] = wide(s[2 * i]) + wide(s[2 * i + 1]) * 256;
+        i += 1;
+    }
+}
+
+// The first byte of each two.
+fn evens(w: &[u16], out: &mut [u8])
+    requires { ⌜ length (now w) ≡ length (now out) ⌝ }
+    ensures { λ _. ⌜ now (out .exit) ≡ tabulate (length (now (out .entry))) (λ i. getD (now (w .entry)) i 0 % 256) ⌝ }
+{
+    let n = out.len();
+    let mut i: usize = 0;
+    while i < n {
+        out[i] = (w[i] % 256) as u8;
+        i += 1;
+    }
+}
+
+// The second byte of each two.
+fn odds(w: &[u16], out: &mut [u8])
+    requires { ⌜ length (now w) ≡ length (now out) ⌝ }
+    ensures { λ _. ⌜ now (out .exit) ≡ tabulate (length (now (out .entry))) (λ i. getD (now (w .entry)) i 0 / 256) ⌝ }
+{
+    let n = out.len();
+    let mut i: usize = 0;
+    while i < n {
+        out[i] = (w[i] / 256) as u8;
+        i += 1;
+    }
+}
+
+// Bytes in two lists, one behind the other, one byte to each in turn, by way of pairs: bytes at a stride the compiler would move one by one.
+fn part_bytes(s: &[u8], w: &mut [u16], out: &mut [u8])
+    requires { ⌜ (length (now s) ≡ 2 * length (now w)) × (length (now out) ≡ 2 * length (now w)) ⌝ }
+    ensures { λ _. ⌜ now (out .exit) ≡ tabulate (length (now (out .entry))) (partedAt (length (now (out .entry))) (now (s .entry))) ⌝ }
+{
+    let n = w.len();
+    let end = out.len();
+    pairs(s, w);
+    evens(w, &mut out[0..n]);
+    odds(w, &mut out[n..end]);
+}
+
+// Each half of such bytes in two lists again.
+fn part_halves(s: &[u8], w: &mut [u16], out: &mut [u8])
+    requires { ⌜ (length (now s) ≡ 1024) × (length (now w) ≡ 256) × (length (now out) ≡ 1024) ⌝ }
+    ensures { λ _. ⌜ now (out .exit) ≡ tabulate 1024 (halvesAt (now (s .entry))) ⌝ }
+{
+    part_bytes(&s[0..512], w, &mut out[0..512]);
+    part_bytes(&s[512..1024], w, &mut out[512..1024]);
+}
+
+// The bytes of the words of sixteen rows of symbols. The other lists lent are room to work in: made here, they would be zeroed each time.
+fn sixteen_rows(
+    s: &[u8],
+    w: &mut [u16; 512],
+    v: &mut [u16; 256],
+    two: &mut [u8; 1024],
+    four: &mut [u8; 1024],
+    out: &mut [u8],
+)
+    requires { ⌜ (length (now s) ≡ 1024) × (length (now out) ≡ 1024) ⌝ }
+    ensures { λ _. ⌜ now (out .exit) ≡ tabulate (length (now (out .entry))) (gatheredAt (now (s .entry))) ⌝ }
+{
+    part_bytes(s, w, two);
+    part_halves(two, v, four);
+    rows(four, out);
+}
+
+// The bytes of a frame's words, with their bits at their places.
+fn gather_bytes(frame: &[u8], out: &mut [u8])
+    requires { ⌜ (length (now frame) ≡ 6144) × (length (now out) ≡ 6144) ⌝ }
+    ensures { λ _. ⌜ now (out .exit) ≡ tabulate 6144 (gatheredAt (now (frame .entry))) ⌝ }
+{
+    let mut w = [0u16; 512];
+    let mut v = [0u16; 256];
+    let mut two = [0u8; 1024];
+    let mut four = [0u8; 1024];
+    let mut g: usize = 0;
+    while g < 6 {
+        let from = 1024 * g;
+        let end = from + 1024;
+        sixteen_rows(
+            &frame[from..end],
+            &mut w,
+            &mut v,
+            &mut two,
+            &mut four,
+            &mut out[from..end],
+        );
+        g += 1;
+    }
+}
+
+// The numbers of the bytes of a frame's words, two a word. In a loop of their own: else the compiler would move the bytes one by one.
+fn numbers(b: &[u8; 6144], out: &mut [u64])
+    requires { ⌜ length (now out) ≡ 768 ⌝ }
+    ensures { λ _. ⌜ now (out .exit) ≡ tabulate 768 (λ j. fieldAt (now (b .entry)) (64 * j) 64) ⌝ }
+{
+    let mut i: usize = 0;
+    while i < 384 {
+        let at = 16 * i;
+        out[2 * i] = bits::load(b, at);
+        out[2 * i + 1] = bits::load(b, at + 8);
+        i += 1;
+    }
+}
+
+// The 384 words of a frame of the right length.
+fn read_words(frame: &[u8], words: &mut [u64; 768])
+    requires { ⌜ length (now frame) ≡ 6144 ⌝ }
     ensures { λ _. ⌜ now (words .exit) ≡ wordsOf (now (frame .entry)) ⌝ }
 {
-    let t = mapper_tables::dibits();
+    let mut b = [0u8; 6144];
+    gather_bytes(frame, &mut b);
     let mut placed = [0u64; 768];
-    gather_words(&t, frame, &mut placed);
+    numbers(&b, &mut placed);
     shuffle::unshuffle_words(&placed, words);
+}
+
+// The 384 words of a frame; its pilots are not looked at. Where its length is wrong the answer is false, and nothing changes. The frame is the caller's own, so
+// that nothing is copied on the way.
+pub fn words_from_frame(frame: &[u8], words: &mut [u64; 768]) -> bool
+    ensures { λ r. ⌜ ReadsFrame (now (frame .entry)) (now (words .entry)) r (now (words .exit)) ⌝ }
+{
+    if frame.len() != 6144 {
+        return false;
+    }
+    read_words(frame, words);
+    true
 }

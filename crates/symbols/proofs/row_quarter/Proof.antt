@@ -4,8 +4,7 @@ use Prim.Native.Nat.{_+_, _-_}
 use native.Mathlib.Omega.{arith}
 use lib.ListN.{length}
 use Rattle.bits.proofs.Filling.{Filling, filling-start, filling-step, filling-done}
-use Rattle.mapper_tables.specs.private.Tables.{mapped}
-use Rattle.symbols.specs.private.Numbers.{dibitsAt}
+use Rattle.symbols.specs.private.Numbers.{mapped, dibitsAt}
 use Rattle.symbols.proofs.row_quarter.Statement.{statement}
 use Rattle.symbols.proofs.row_quarter.Tie as tie
 

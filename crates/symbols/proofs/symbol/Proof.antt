@@ -5,8 +5,7 @@ use native.Mathlib.Nat.{mod-lt}
 use native.Mathlib.Omega.{arith}
 use lib.Dec.{lit<}
 use borrow.Author.Tests.{eq-eqb, ne-eqb}
-use Rattle.mapper_tables.specs.private.Tables.{mapped}
-use Rattle.symbols.specs.private.Numbers.{dibitIn}
+use Rattle.symbols.specs.private.Numbers.{mapped, dibitIn}
 use Rattle.symbols.proofs.Symbols.{turned, symbol-values}
 use borrow.Author.Needs.{needs}
 use Rattle.symbols.proofs.symbol.Statement.{statement}

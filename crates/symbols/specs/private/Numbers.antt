@@ -1,14 +1,24 @@
--- What the mapping's own functions promise one another about words, symbols and four lanes' numbers. No promise to a caller rests on a definition here.
+-- What the mapping's own functions promise one another about symbols and the bytes of words. No promise to a caller rests on a definition here.
 -- Assumes nothing.
 use mathlib.Core.Bool.{cond}
 use mathlib.Core.List.{List}
-use Prim.Native.Nat.{ℕ, _+_, _*_, _-_, _/_, _%_, _^_, _<_}
+use Prim.Native.Nat.{ℕ, _+_, _*_, _-_, _/_, _%_, _^_}
 use lib.Bits.{bitAnd, bitOr}
 use lib.Dec.{ltb}
-use lib.ListN.{getD, set, drop}
-use Rattle.bits.specs.definitions.Bits.{value}
-use Rattle.mapper_tables.specs.private.Tables.{mapped, dibitOf}
-use Rattle.symbols.specs.declared.Quad.{Quad}
+use lib.ListN.{getD, drop}
+use Rattle.bits.specs.definitions.Bits.{number, bitOf}
+
+-- of the four lanes that symbol l carries, the one that tributary t has
+unfoldable pub laneIn : ℕ → ℕ → ℕ
+laneIn l t = (2 * l + l / 2 % 2 + t) % 4
+
+-- the tributary that has lane r of the four
+unfoldable pub tributaryIn : ℕ → ℕ → ℕ
+tributaryIn l r = (r + 3 * (2 * l + l / 2 % 2)) % 4
+
+-- symbol l's byte, from the byte y of four dibits in the lanes' order
+unfoldable pub mapped : ℕ → ℕ → ℕ
+mapped l y = number 8 (λ i. bitOf 8 y (2 * laneIn l (i / 2) + (i + l) % 2))
 
 -- dibit e of a byte, the first on top
 abbrev pub dibitIn : ℕ → ℕ → ℕ
@@ -32,40 +42,34 @@ byteOfTwo x y t = cond (ltb (t % 4) 2) (getD x (t / 4) 0) (getD y (t / 4) 0) / 2
 
 -- ---- the way back
 
--- the number of the n dibits of lane r, of the four, in the symbols s, of which the first is number l
-unfoldable pub gathered : ℕ → ℕ → List ℕ → ℕ → ℕ
-gathered n l s r = value 4 n (λ i. dibitOf (l + i) r (getD s i 0))
+-- the dibit of lane r, of the four, in symbol l's byte x
+unfoldable pub dibitOf : ℕ → ℕ → ℕ → ℕ
+dibitOf l r x = bitOf 8 x (2 * tributaryIn l r + l % 2) * 2 + bitOf 8 x (2 * tributaryIn l r + (l + 1) % 2)
 
--- the numbers of the four lanes
-unfoldable pub quadOf : ℕ → ℕ → List ℕ → Quad
-quadOf n l s = record { a = gathered n l s 0; b = gathered n l s 1; c = gathered n l s 2; d = gathered n l s 3 }
+-- a byte of the word of lane r: its dibits in four symbols, of which the first is number l
+unfoldable pub gathered : ℕ → ℕ → ℕ → ℕ → ℕ → ℕ → ℕ
+gathered l r a b c d = dibitOf l r a * 64 + dibitOf (l + 1) r b * 16 + dibitOf (l + 2) r c * 4 + dibitOf (l + 3) r d
 
--- the four numbers of at most 8 dibits in four fields of 16 bits
-unfoldable pub fieldsOf : ℕ → ℕ → List ℕ → ℕ
-fieldsOf n l s = gathered n l s 0 * 2 ^ 48 + gathered n l s 1 * 2 ^ 32 + gathered n l s 2 * 2 ^ 16 + gathered n l s 3
+-- byte i of n bytes in two lists, one behind the other, one byte to each in turn
+unfoldable pub partedAt : ℕ → List ℕ → ℕ → ℕ
+partedAt n s i = cond (ltb i (n / 2)) (getD s (2 * i) 0) (getD s (2 * (i - n / 2) + 1) 0)
 
--- room for 8 dibits more in each of four numbers
-pub record Room (q : Quad) : Type 0 where
-  pub a : q .a < 2 ^ 48
-  pub b : q .b < 2 ^ 48
-  pub c : q .c < 2 ^ 48
-  pub d : q .d < 2 ^ 48
+-- byte i of two halves of 512 bytes, each of which is in two lists so
+unfoldable pub halvesAt : List ℕ → ℕ → ℕ
+halvesAt s i = partedAt 512 (drop (512 * (i / 512)) s) (i % 512)
 
--- four numbers with 8 dibits more of each, of four fields
-unfoldable pub joined : Quad → ℕ → Quad
-joined q v =
-    record {
-      a = q .a * 65536 + v / 2 ^ 48;
-      b = q .b * 65536 + v / 2 ^ 32 % 65536;
-      c = q .c * 65536 + v / 2 ^ 16 % 65536;
-      d = q .d * 65536 + v % 65536;
-    }
+-- such a byte from four lists of 256 symbols, one symbol in each in turn, at place m of each. Symbols parted twice stand so: of each four the first, the
+-- third, the second and the fourth
+unfoldable pub gatheredFrom : List ℕ → ℕ → ℕ → ℕ → ℕ
+gatheredFrom s l r m = gathered l r (getD s m 0) (getD s (m + 512) 0) (getD s (m + 256) 0) (getD s (m + 768) 0)
 
--- a row with four numbers put at the places o, o + 2, o + 4, o + 6
-unfoldable pub quadPut : Quad → ℕ → List ℕ → List ℕ
-quadPut q o s = set (set (set (set s o (q .a)) (o + 2) (q .b)) (o + 4) (q .c)) (o + 6) (q .d)
+-- byte i of the words of sixteen rows in such lists, 64 a row; the first row's first symbol is number 3
+unfoldable pub rowsAt : List ℕ → ℕ → ℕ
+rowsAt s i = gatheredFrom s (3 * (i / 64) + 3) (i / 16 % 4) (16 * (i / 64) + i % 16)
 
--- number j of the row of a frame's words with their bits at their places: of the lane j % 8 / 2, of the four, in the first or the second 32 of the
--- 64 symbols j / 8. The pilot's dibit stands above an upper number's 62 bits, where it is no part of the word
+-- byte t of the words of a frame with their bits at their places, sixteen a word. The pilot's dibit stands above a word's 126 bits, where it is no part of
+-- the word
 unfoldable pub gatheredAt : List ℕ → ℕ → ℕ
-gatheredAt f j = gathered 32 (j / 8 * 63 + 3) (drop (j / 8 * 64 + j % 2 * 32) f) (j % 8 / 2)
+gatheredAt f t =
+    let at = 64 * (t / 64) + 4 * (t % 16) in
+    gathered (3 * (t / 64) + 3) (t / 16 % 4) (getD f at 0) (getD f (at + 1) 0) (getD f (at + 2) 0) (getD f (at + 3) 0)
