@@ -17,8 +17,8 @@
  * everything else the third. */
 #define LR800_VERSION_MAJOR 2
 #define LR800_VERSION_MINOR 0
-#define LR800_VERSION_PATCH 1
-#define LR800_VERSION "2.0.1"
+#define LR800_VERSION_PATCH 2
+#define LR800_VERSION "2.0.2"
 
 #ifdef __cplusplus
 extern "C" {
