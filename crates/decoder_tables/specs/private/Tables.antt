@@ -46,12 +46,15 @@ unfoldable pub locatedPair : (field log cube one other place : List ℕ) → ℕ
 locatedPair field log cube one other place s =
     record { first = placeBy log cube one place (valuesOf field s); second = placeBy log cube other place (valuesOf field s) }
 
+-- the same in rising order
+abbrev pub locatedRising : (field log cube one other place : List ℕ) → ℕ → Pair
+locatedRising field log cube one other place s = risingOf (locatedPair field log cube one other place s)
+
 -- `places`: from the remainder of at most two bits the look-ups lead to their places, 127 for none; and from any remainder they stay within the tables
 pub record Finds (field log cube one other place : List ℕ) : Type 0 where
-  pub no-bit : risingOf (locatedPair field log cube one other place 0) ≡ record { first = 127; second = 127 }
-  pub one-bit : (i : ℕ) → i < 126 → risingOf (locatedPair field log cube one other place (column i)) ≡ record { first = i; second = 127 }
-  pub two-bits : (i j : ℕ) → i < j → j < 126
-      → risingOf (locatedPair field log cube one other place (bitXor (column i) (column j))) ≡ record { first = i; second = j }
+  pub no-bit : locatedRising field log cube one other place 0 ≡ record { first = 127; second = 127 }
+  pub one-bit : (i : ℕ) → i < 126 → locatedRising field log cube one other place (column i) ≡ record { first = i; second = 127 }
+  pub two-bits : (i j : ℕ) → i < j → j < 126 → locatedRising field log cube one other place (bitXor (column i) (column j)) ≡ record { first = i; second = j }
   pub log-most : (k : ℕ) → getD log k 0 ≤ 126
   pub cube-most : (k : ℕ) → getD cube k 0 ≤ 126
   pub place-most : (k : ℕ) → getD place k 0 ≤ 127
