@@ -1,29 +1,26 @@
 -- The remainder by digits of 16 bits, with no table: what `fold_digit` works out is linear, and right at each power of x.
 -- Assumes nothing.
 use mathlib.Core.Path.{_≡_, refl, sym, ap, ap₂, _∙_, subst}
-use mathlib.Core.Logic.{_≢_}
 use mathlib.Core.Bool.{Bool}
 use mathlib.Core.List.{List}
-use Prim.Native.Nat.{ℕ, _+_, _*_, _/_, _%_, _^_, _<_, _≤_, zero-le}
-use native.Mathlib.Nat.{add-zero, div-one, not-suc-le-zero}
-use native.Mathlib.Decide.{ℕ-discrete}
+use Prim.Native.Nat.{ℕ, _+_, _*_, _/_, _%_, _^_, _<_, zero-le}
+use native.Mathlib.Nat.{add-zero, div-one}
 use native.Mathlib.Omega.{arith}
 use lib.Arith.{digits-lt}
 use lib.Bits.{bitXor, xor-shr, xor-mod, xor-block}
 use lib.Dec.{T, eqb, eqb→eq, lit<}
-use lib.ListN.{length, getD, set, length-set}
-use lib.Seq.{getD-set-same, getD-set-other}
+use lib.ListN.{getD, set}
 use lib.Pow.{pow-pos, shr-shr, mod-pow-add, high, low}
 use Rattle.bits.specs.definitions.Bits.{tabulate}
 use Rattle.bits.specs.definitions.Words.{wordAt}
 use Rattle.bits.proofs.Filling.{Filling, filling-at}
 use Rattle.bits.proofs.Sums.{sums-linear}
 use Rattle.bits.proofs.Table.{each, range-rule}
-use Rattle.bits.proofs.Tabulate.{getD-tabulate, tabulate-cong, is-tabulate}
+use Rattle.bits.proofs.Tabulate.{getD-tabulate, tabulate-cong}
 use Rattle.bits.proofs.Xor.{xor-four}
 use Rattle.bch.specs.definitions.Code.{stepOf, feedOf, remainder}
 use Rattle.bch.specs.private.Folded.{FoldedWords}
-use Rattle.bch.specs.private.Digits.{joined, numberAt, digitAt, digitsOf}
+use Rattle.bch.specs.private.Digits.{ofDigits, ofDigitsAt, digitAt, digitsOf}
 use Rattle.bch.proofs.Remainder.{feed-low, feed-append, remainder-own, remainder-xor, remainder-zero}
 
 -- ---- a digit below a remainder
@@ -81,28 +78,28 @@ digitFold =
     plus (plus (plus (plus (plus (plus theDigit q) (left t 1)) (left t 5)) (left t 9)) (left q 10)) (left q 14)
 
 -- a remainder and a digit as one number of 32 bits: at each power of x what is worked out is the remainder
-abbrev folded : ℕ → ℕ
-folded w = digitFold .of (w / 2 ^ 16) (w % 2 ^ 16)
+abbrev digitFolded : ℕ → ℕ
+digitFolded w = digitFold .of (w / 2 ^ 16) (w % 2 ^ 16)
 
 power-ok : ℕ → Bool
-power-ok i = eqb (remainder 32 (2 ^ i)) (folded (2 ^ i))
+power-ok i = eqb (remainder 32 (2 ^ i)) (digitFolded (2 ^ i))
 
 power-test : T (each power-ok 32 0)
 unfolding power-ok feedOf stepOf
 power-test = tt
 
-folded-power : (i : ℕ) → i < 32 → remainder 32 (2 ^ i) ≡ folded (2 ^ i)
+folded-power : (i : ℕ) → i < 32 → remainder 32 (2 ^ i) ≡ digitFolded (2 ^ i)
 unfolding power-ok
-folded-power i h = eqb→eq (remainder 32 (2 ^ i)) (folded (2 ^ i)) (range-rule power-ok 32 0 power-test i zero-le h)
+folded-power i h = eqb→eq (remainder 32 (2 ^ i)) (digitFolded (2 ^ i)) (range-rule power-ok 32 0 power-test i zero-le h)
 
-folded-xor : (x y : ℕ) → folded (bitXor x y) ≡ bitXor (folded x) (folded y)
+folded-xor : (x y : ℕ) → digitFolded (bitXor x y) ≡ bitXor (digitFolded x) (digitFolded y)
 folded-xor x y = ap₂ (digitFold .of) (xor-shr x y 16) (xor-mod x y 16) ∙ digitFold .keeps (x / 2 ^ 16) (y / 2 ^ 16) (x % 2 ^ 16) (y % 2 ^ 16)
 
 -- so at every number
-folded-remainder : (w : ℕ) → w < 2 ^ 32 → folded w ≡ remainder 32 w
+folded-remainder : (w : ℕ) → w < 2 ^ 32 → digitFolded w ≡ remainder 32 w
 folded-remainder w h =
     let f : ℕ → ℕ = λ i. remainder 32 (2 ^ i) in
-    sym (sums-linear 32 f folded refl (λ x y l m. folded-xor x y) folded-power w h)
+    sym (sums-linear 32 f digitFolded refl (λ x y l m. folded-xor x y) folded-power w h)
     ∙ sums-linear 32 f (remainder 32) (remainder-zero 32) (λ x y l m. remainder-xor 32 x y) (λ i l. refl) w h
 
 -- a digit below the remainder of a number: that of the number with one digit more
@@ -117,14 +114,14 @@ fold-digit-law r d hr hd =
 
 -- and four digits
 pub fold-digits-law : (a b c d : ℕ) {r s t : ℕ} → a < 65536 → b < 65536 → c < 65536 → d < 65536 → r ≡ feedOf a 16 b → s ≡ feedOf r 16 c → t ≡ feedOf s 16 d
-    → t ≡ remainder 64 (joined a b c d)
+    → t ≡ remainder 64 (ofDigits a b c d)
 fold-digits-law a b c d ha hb hc hd er es et =
     digit-more 48 ((a * 65536 + b) * 65536 + c) d (digit-more 32 (a * 65536 + b) c (digit-more 16 a b (sym (remainder-own a ha)) hb er) hc es) hd et
 
 -- a number's digits, but for what stands above 64 bits
-pub joined-remainder : (v : ℕ) {a : ℕ} → a ≡ v / 2 ^ 48 % 65536
-    → remainder 64 (joined a (v / 2 ^ 32 % 65536) (v / 65536 % 65536) (v % 65536)) ≡ remainder 64 v
-joined-remainder v e =
+pub digits-own : (v : ℕ) {a : ℕ} → a ≡ v / 2 ^ 48 % 65536
+    → remainder 64 (ofDigits a (v / 2 ^ 32 % 65536) (v / 65536 % 65536) (v % 65536)) ≡ remainder 64 v
+digits-own v e =
     ap (remainder 64) (sym (cut v 48 ∙ under (v % 65536) (cut (v / 2 ^ 16) 32 ∙ under (v / 65536 % 65536)
     (rw (shr-shr v 16 16) (cut (v / 2 ^ 32) 16 ∙ under (v / 2 ^ 32 % 65536) (rw (shr-shr v 32 16) (sym e)))))))
     ∙ feed-low 0 64 v
@@ -168,9 +165,9 @@ digits-step s {out₀} {out} {i} {v} F h l e =
     at k b = sym (digit-at s i k b ∙ ap (λ (x : ℕ). x / 2 ^ (16 * k) % 65536) e)
 
 -- what the digits of number i make has its remainder
-digits-remainder : (s : List ℕ) (i : ℕ) → i < 384 → remainder 64 (numberAt (digitsOf s) i) ≡ remainder 64 (getD s i 0)
+digits-remainder : (s : List ℕ) (i : ℕ) → i < 384 → remainder 64 (ofDigitsAt (digitsOf s) i) ≡ remainder 64 (getD s i 0)
 digits-remainder s i h =
-    rw (lowest, at 1 (lit< tt), at 2 (lit< tt), at 3 (lit< tt)) (joined-remainder (getD s i 0) refl)
+    rw (lowest, at 1 (lit< tt), at 2 (lit< tt), at 3 (lit< tt)) (digits-own (getD s i 0) refl)
   where
     at : (k : ℕ) → k < 4 → getD (digitsOf s) (4 * i + k) 0 ≡ getD s i 0 / 2 ^ (16 * k) % 65536
     at k b = getD-tabulate 1536 (digitAt s) (4 * i + k) 0 (omega arith) ∙ digit-at s i k b
@@ -180,54 +177,7 @@ digits-remainder s i h =
 
 -- the remainders of folded words, from their digits
 pub remainders-law : (words : List ℕ) {folds digits out : List ℕ} → FoldedWords 64 384 words folds → digits ≡ digitsOf folds
-    → out ≡ tabulate 384 (λ i. remainder 64 (numberAt digits i)) → out ≡ tabulate 384 (λ i. remainder 126 (wordAt words i))
+    → out ≡ tabulate 384 (λ i. remainder 64 (ofDigitsAt digits i)) → out ≡ tabulate 384 (λ i. remainder 126 (wordAt words i))
 remainders-law words {folds} {digits} F e q =
-    q ∙ tabulate-cong 384 (λ i. remainder 64 (numberAt digits i)) (λ i. remainder 126 (wordAt words i))
-    (λ i h. ap (λ (d : List ℕ). remainder 64 (numberAt d i)) e ∙ digits-remainder folds i h ∙ F .fold i h)
-
--- ---- a row filled from the front of each quarter
-
--- the first i of each quarter of a row of 384 stand
-pub record Quarters (f : ℕ → ℕ) (out : List ℕ) (i : ℕ) : Type 0 where
-  pub long : length out ≡ 384
-  pub stands : (k : ℕ) → k < 384 → k % 96 < i → getD out k 0 ≡ f k
-
-module _ (f : ℕ → ℕ) {out : List ℕ} where
-  pub quarters-start : length out ≡ 384 → Quarters f out 0
-  quarters-start e = record { long = e; stands = λ k _ l. absurd (not-suc-le-zero l) }
-
-  pub quarters-step : {i a b c d : ℕ} → Quarters f out i → i < 96 → a ≡ f i → b ≡ f (96 + i) → c ≡ f (192 + i) → d ≡ f (288 + i)
-      → Quarters f (set (set (set (set out i a) (96 + i) b) (192 + i) c) (288 + i) d) (i + 1)
-  quarters-step {i} {a} {b} {c} {d} Q h ea eb ec ed = record { long = long₄; stands = λ k l m. at₄ k (ℕ-discrete k (288 + i)) l m }
-    where
-      long₁ : length (set out i a) ≡ 384
-      long₁ = length-set out i a ∙ Q .long
-
-      long₂ : length (set (set out i a) (96 + i) b) ≡ 384
-      long₂ = length-set (set out i a) (96 + i) b ∙ long₁
-
-      long₃ : length (set (set (set out i a) (96 + i) b) (192 + i) c) ≡ 384
-      long₃ = length-set (set (set out i a) (96 + i) b) (192 + i) c ∙ long₂
-
-      long₄ : length (set (set (set (set out i a) (96 + i) b) (192 + i) c) (288 + i) d) ≡ 384
-      long₄ = length-set (set (set (set out i a) (96 + i) b) (192 + i) c) (288 + i) d ∙ long₃
-
-      -- what is stored last stands, and else what stood before
-      stored : (l : List ℕ) (p v k : ℕ) → length l ≡ 384 → p < 384 → v ≡ f p → Dec (k ≡ p) → (k ≢ p → getD l k 0 ≡ f k) → getD (set l p v) k 0 ≡ f k
-      stored l p v k e q ev (yes r) old = rw r (getD-set-same l p v 0 (omega arith) ∙ ev)
-      stored l p v k e q ev (no r) old = getD-set-other l p k v 0 r ∙ old r
-
-      at₁ : (k : ℕ) → k < 384 → k % 96 < i + 1 → k ≢ 96 + i → k ≢ 192 + i → k ≢ 288 + i → getD (set out i a) k 0 ≡ f k
-      at₁ k l m x y z = stored out i a k (Q .long) (omega arith) ea (ℕ-discrete k i) (λ n. Q .stands k l (omega arith))
-
-      at₂ : (k : ℕ) → k < 384 → k % 96 < i + 1 → k ≢ 192 + i → k ≢ 288 + i → getD (set (set out i a) (96 + i) b) k 0 ≡ f k
-      at₂ k l m y z = stored (set out i a) (96 + i) b k long₁ (omega arith) eb (ℕ-discrete k (96 + i)) (λ x. at₁ k l m x y z)
-
-      at₃ : (k : ℕ) → k < 384 → k % 96 < i + 1 → k ≢ 288 + i → getD (set (set (set out i a) (96 + i) b) (192 + i) c) k 0 ≡ f k
-      at₃ k l m z = stored (set (set out i a) (96 + i) b) (192 + i) c k long₂ (omega arith) ec (ℕ-discrete k (192 + i)) (λ y. at₂ k l m y z)
-
-      at₄ : (k : ℕ) → Dec (k ≡ 288 + i) → k < 384 → k % 96 < i + 1 → getD (set (set (set (set out i a) (96 + i) b) (192 + i) c) (288 + i) d) k 0 ≡ f k
-      at₄ k w l m = stored (set (set (set out i a) (96 + i) b) (192 + i) c) (288 + i) d k long₃ (omega arith) ed w (λ z. at₃ k l m z)
-
-  pub quarters-done : {i : ℕ} → Quarters f out i → 96 ≤ i → out ≡ tabulate 384 f
-  quarters-done Q h = is-tabulate 0 out 384 f (Q .long) (λ k l. Q .stands k l (omega arith))
+    q ∙ tabulate-cong 384 (λ i. remainder 64 (ofDigitsAt digits i)) (λ i. remainder 126 (wordAt words i))
+    (λ i h. ap (λ (d : List ℕ). remainder 64 (ofDigitsAt d i)) e ∙ digits-remainder folds i h ∙ F .fold i h)

@@ -12,9 +12,9 @@ use lib.Dec.{T, leb, leb→le, lit<, lit≤}
 use lib.ListN.{length, getD, set}
 use lib.Pow.{pow-pos, shl-lt, shl-exact, shr-mod, shr-shr, mod-mod-pow, high, low}
 use lib.Seq.{getD-set-same, getD-set-other, set-getD}
-use lib.Bits.{bitAnd, bitOr, bitXor, xor-lt, xor-zero-r, or-add-and, and-le-l, and-comm}
+use lib.Bits.{bitOr, bitXor, xor-lt, xor-zero-r}
 use Rattle.bits.specs.definitions.Words.{wordOf, wordAt, halfOf, rowOf}
-use Rattle.bits.proofs.Xor.{xor-assoc, xor-four}
+use Rattle.bits.proofs.Xor.{xor-assoc, xor-four, or-within}
 use Rattle.bits.proofs.Sums.{sumAt, sums-linear}
 use Rattle.bits.proofs.Table.{and-left, and-right}
 use Rattle.bits.proofs.Tabulate.{is-tabulate}
@@ -192,13 +192,6 @@ trimmed-step {s₀} {s} {i} R h l =
     (sym (low u 64 l) ∙ ap (λ (w : ℕ). w % 2 ^ 64) (row-rest (wordAt s₀) R)))
 
 -- ---- all upper numbers in one
-
-or-within : (a b : ℕ) → (a ≤ bitOr a b) × (b ≤ bitOr a b)
-or-within a b =
-    let e : bitOr a b + bitAnd a b ≡ a + b = or-add-and a b in
-    let l : bitAnd a b ≤ a = and-le-l a b in
-    let r : bitAnd a b ≤ b = rw (and-comm a b) (and-le-l b a) in
-    (omega arith, omega arith)
 
 pub within-start : (words : List ℕ) (top : ℕ) → ((k : ℕ) → getD words k 0 < 2 ^ 64) → UppersWithin 0 words top
 within-start words top l = record { number = l; within = λ k h. absurd (not-suc-le-zero h) }

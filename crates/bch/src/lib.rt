@@ -9,7 +9,7 @@ ghost use Rattle.bch.specs.definitions.Code.{feedOf, remainder, parityOf
 ghost use Rattle.bch.specs.definitions.Word.{informationOf, codedFrame};
 ghost use Rattle.bch.specs.private.Tables.{IsByteRemainders};
 ghost use Rattle.bch.specs.private.Folded.{FoldedWords, UppersWithin};
-ghost use Rattle.bch.specs.private.Digits.{joined, numberAt, digitsOf};
+ghost use Rattle.bch.specs.private.Digits.{ofDigits, ofDigitsAt, digitsOf};
 
 mod tables;
 
@@ -141,7 +141,7 @@ fn fold_digit(r: u16, d: u16) -> u16
 
 // The remainder of a number of four digits, from the top: the top digit is its own remainder.
 fn fold_digits(a: u16, b: u16, c: u16, d: u16) -> u16
-    ensures { λ r. ⌜ r ≡ remainder 64 (joined a b c d) ⌝ }
+    ensures { λ r. ⌜ r ≡ remainder 64 (ofDigits a b c d) ⌝ }
 {
     fold_digit(fold_digit(fold_digit(a, b), c), d)
 }
@@ -215,16 +215,16 @@ fn digits_of(numbers: &[u64], out: &mut [u16])
 // The remainder of number k of a row of digits.
 fn remainder_at(digits: &[u16], k: usize) -> u16
     requires { ⌜ (length (now digits) ≡ 1536) × (k < 384) ⌝ }
-    ensures { λ r. ⌜ r ≡ remainder 64 (numberAt (now (digits .entry)) k) ⌝ }
+    ensures { λ r. ⌜ r ≡ remainder 64 (ofDigitsAt (now (digits .entry)) k) ⌝ }
 {
     let at = 4 * k;
     fold_digits(digits[at + 3], digits[at + 2], digits[at + 1], digits[at])
 }
 
-// The remainder of each number, one of each quarter of the row at a time: none of the four waits for another.
+// The remainder of each number, one of each fourth part of the row at a time: none of the four waits for another.
 fn digit_remainders(digits: &[u16], out: &mut [u16])
     requires { ⌜ (length (now digits) ≡ 1536) × (length (now out) ≡ 384) ⌝ }
-    ensures { λ _. ⌜ now (out .exit) ≡ tabulate 384 (λ i. remainder 64 (numberAt (now (digits .entry)) i)) ⌝ }
+    ensures { λ _. ⌜ now (out .exit) ≡ tabulate 384 (λ i. remainder 64 (ofDigitsAt (now (digits .entry)) i)) ⌝ }
 {
     let mut i: usize = 0;
     while i < 96 {

@@ -15,8 +15,9 @@ use lib.Bits.{bitAnd, bitOr, and-mask, or-shifted}
 use lib.ListN.{length, getD, set, length-set}
 use lib.Seq.{ext-getD, getD-set-same, getD-set-other}
 use borrow.Author.Tests.{lt-ltb, le-ltb}
-use Rattle.bits.specs.definitions.Put.{Put, Puts}
-use Rattle.bits.specs.definitions.Bits.{value, fieldAt, loadedAt, reversed, AllBytes}
+use Rattle.bits.specs.definitions.Put.{Put, PutEight}
+use Rattle.bits.specs.definitions.Bits.{value, fieldAt, loadedAt, AllBytes}
+use Rattle.bits.specs.private.Bytes.{reversed}
 use Rattle.bits.proofs.Value.{value-cong, value-digit, value-digits}
 use Rattle.bits.proofs.Fields.{bytes-field, byte-field, field-join, field-lt}
 
@@ -48,7 +49,7 @@ pub record Putting (n v o : ℕ) (d l : List ℕ) (j : ℕ) : Type 0 where
   pub after : (m : ℕ) → o + j ≤ m → getD l m 0 ≡ getD d m 0
   pub digit : (i : ℕ) → i < j → getD l (o + i) 0 ≡ v / 2 ^ (8 * (n - (i + 1))) % 256
 
-pub byte-pow : (k : ℕ) → 2 ^ (8 * k) ≡ 256 ^ k
+byte-pow : (k : ℕ) → 2 ^ (8 * k) ≡ 256 ^ k
 byte-pow zero = refl
 byte-pow (suc k) = rw (mul-suc, pow-add, pow-suc 256 k, byte-pow k)
 
@@ -196,7 +197,7 @@ unfolding loadedAt
 loaded-none s o h = rw (lt-ltb (length s) (o + 8) h)
 
 -- what was put is known
-pub put-unique : {n v o : ℕ} {d l k : List ℕ} → Put n v o d l → Put n v o d k → l ≡ k
+put-unique : {n v o : ℕ} {d l k : List ℕ} → Put n v o d l → Put n v o d k → l ≡ k
 put-unique {n} {v} {o} {d} {l} {k} P Q = ext-getD 0 l k (P .long ∙ sym (Q .long)) (λ m h. at m (decLt m o) (decLt m (o + n)))
   where
     at : (m : ℕ) → Dec (m < o) → Dec (m < o + n) → getD l m 0 ≡ getD k m 0
@@ -207,8 +208,8 @@ put-unique {n} {v} {o} {d} {l} {k} P Q = ext-getD 0 l k (P .long ∙ sym (Q .lon
         ap (λ (i : ℕ). getD l i 0) (sym e) ∙ put-byte P (m - o) h ∙ sym (put-byte Q (m - o) h) ∙ ap (λ (i : ℕ). getD k i 0) e
     at m (no a) (no b) = P .after m (omega arith) ∙ sym (Q .after m (omega arith))
 
-pub puts-unique : {v o : ℕ} {d l k : List ℕ} → Puts v o d l → Puts v o d k → l ≡ k
-puts-unique {v} {o} {d} {l} {k} P Q = at (decLt (length d) (o + 8))
+pub put-eight-unique : {v o : ℕ} {d l k : List ℕ} → PutEight v o d l → PutEight v o d k → l ≡ k
+put-eight-unique {v} {o} {d} {l} {k} P Q = at (decLt (length d) (o + 8))
   where
     at : Dec (length d < o + 8) → l ≡ k
     at (yes h) = P .none h ∙ sym (Q .none h)

@@ -1,6 +1,7 @@
 pub mod Xor
 pub mod Tabulate
 pub mod Filling
+pub mod Parts
 pub mod Words
 pub mod Table
 pub mod Sums

@@ -12,11 +12,6 @@ use Rattle.bits.specs.definitions.Bits.{value, number, bitOf}
 use Rattle.bits.proofs.Xor.{xor-odd}
 
 module _ (b : ℕ) where
-  -- one digit more, for loops
-  pub value-more : (n : ℕ) (f : ℕ → ℕ) → value b (n + 1) f ≡ value b n f * b + f n
-  unfolding value
-  value-more n f = rw add-one
-
   -- it depends on the first n digits alone
   pub value-cong : (n : ℕ) (f g : ℕ → ℕ) → ((i : ℕ) → i < n → f i ≡ g i) → value b n f ≡ value b n g
   unfolding value

@@ -1,12 +1,12 @@
--- Exclusive or on numbers: it goes bit by bit, and is a commutative group. What the library lacks of it.
+-- Exclusive or on numbers: it goes bit by bit, and is a commutative group. What the library lacks of it; and a bound of or.
 -- Assumes nothing.
 use mathlib.Core.Path.{_≡_, refl, sym, ap, ap₂, _∙_}
 use mathlib.Core.Logic.{_⊎_, inl, inr}
-use Prim.Native.Nat.{ℕ, zero, suc, _+_, _*_, _/_, _%_, _<_}
+use Prim.Native.Nat.{ℕ, zero, suc, _+_, _*_, _/_, _%_, _<_, _≤_}
 use native.Mathlib.Nat.{mod-lt, zero-lt-suc}
 use native.Mathlib.Omega.{arith}
 use lib.Arith.{bin-ind, digits-div, digits-mod}
-use lib.Bits.{bitXor, differ, xor-step, xor-comm, xor-self, xor-zero-r, xor-block}
+use lib.Bits.{bitAnd, bitOr, bitXor, differ, xor-step, xor-comm, xor-self, xor-zero-r, xor-block, or-add-and, and-le-l, and-le-r}
 
 two-pos : zero < 2
 two-pos = zero-lt-suc 1
@@ -77,3 +77,11 @@ xor-zero-eq a b e = sym (xor-cancel-r a b) ∙ ap (λ (x : ℕ). bitXor x b) e
 -- it passes under one more bit
 pub xor-double : (a b x y : ℕ) → x < 2 → y < 2 → bitXor (a * 2 + x) (b * 2 + y) ≡ bitXor a b * 2 + bitXor x y
 xor-double a b x y hx hy = xor-block 1 a b x y hx hy
+
+-- two numbers are at most what has every bit of both
+pub or-within : (a b : ℕ) → (a ≤ bitOr a b) × (b ≤ bitOr a b)
+or-within a b =
+    let e : bitOr a b + bitAnd a b ≡ a + b = or-add-and a b in
+    let l : bitAnd a b ≤ a = and-le-l a b in
+    let r : bitAnd a b ≤ b = and-le-r a b in
+    (omega arith, omega arith)

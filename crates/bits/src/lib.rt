@@ -4,8 +4,9 @@ ghost use mathlib.Core.Path.{_≡_};
 ghost use mathlib.Core.Logic.{_⊎_};
 ghost use Prim.Native.Nat.{_%_, _^_, _<_, _≤_};
 ghost use lib.ListN.{length};
-ghost use Rattle.bits.specs.definitions.Bits.{loadedAt, copied, reversed};
-ghost use Rattle.bits.specs.definitions.Put.{Puts};
+ghost use Rattle.bits.specs.definitions.Bits.{loadedAt, copied};
+ghost use Rattle.bits.specs.definitions.Put.{PutEight};
+ghost use Rattle.bits.specs.private.Bytes.{reversed};
 
 // Powers of two by which numbers are cut, as the definitions write them: 2^24 and so on.
 pub const TWO_24: u64 = 1 << 24;
@@ -51,7 +52,7 @@ pub fn low_byte(x: u64) -> u8
 }
 
 // A number's eight bytes in the other order: the compiler has one instruction for it.
-pub fn reversed(v: u64) -> u64
+fn reversed(v: u64) -> u64
     ensures { λ r. ⌜ r ≡ reversed v ⌝ }
 {
     v % 256 * TWO_56
@@ -64,7 +65,8 @@ pub fn reversed(v: u64) -> u64
         + v / TWO_56
 }
 
-// The eight bytes from byte o on, as a number, the last byte first: so the compiler makes one move of them. 0 where there are not eight.
+// The eight bytes from byte o on as a number, the first on top; added from the last on, so that the compiler makes one move of them. 0 where there are not
+// eight.
 pub fn load(s: &[u8], o: usize) -> u64
     ensures { λ r. ⌜ r ≡ loadedAt (now (s .entry)) o ⌝ }
 {
@@ -86,7 +88,7 @@ pub fn load(s: &[u8], o: usize) -> u64
 
 // v as the eight bytes from byte o on: reversed first, so that the compiler makes one move of them. Where there are not eight, nothing changes.
 pub fn put(out: &mut [u8], o: usize, v: u64)
-    ensures { λ _. ⌜ Puts v o (now (out .entry)) (now (out .exit)) ⌝ }
+    ensures { λ _. ⌜ PutEight v o (now (out .entry)) (now (out .exit)) ⌝ }
 {
     if out.len() < 8 {
         return;

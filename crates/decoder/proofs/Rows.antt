@@ -11,13 +11,13 @@ use lib.Arith.{digits-div, digits-mod}
 use lib.Dec.{eqb}
 use lib.ListN.{length, getD, take, drop, length-take, length-drop}
 use lib.Seq.{getD-take, getD-drop}
-use lib.Bits.{bitOr, or-add-and, and-le-l, and-le-r}
+use lib.Bits.{bitOr}
 use Rattle.bits.specs.definitions.Bits.{tabulate}
 use Rattle.bits.specs.definitions.Words.{wordAt, halfOf, rowOf}
 use Rattle.bits.proofs.Filling.{Filling, filling-start, filling-step, filling-rest, filling-done, filling-put}
 use Rattle.bits.proofs.Tabulate.{getD-tabulate, tabulate-cong, is-tabulate}
 use Rattle.bits.proofs.Words.{Rewriting, row-start, row-step, row-done, row-cong}
-use Rattle.bits.proofs.Xor.{bit-cases}
+use Rattle.bits.proofs.Xor.{bit-cases, or-within}
 use Rattle.bch.specs.definitions.Code.{remainder}
 use Rattle.decoder.specs.definitions.Mend.{mend, mended, flagOf}
 use Rattle.decoder.specs.definitions.Word.{mendedFrame, flagsOf}
@@ -25,9 +25,9 @@ use Rattle.decoder.specs.private.Answer.{Pattern, remainderOf, Answers, 
 use Rattle.decoder.specs.declared.Mend.the-variants.{Clean}
 use Rattle.decoder.proofs.Patterns.{answers-unique, mend-answers}
 
--- where a sum of bits is 0 both are
+-- where what has every bit of both is 0, both are
 pub or-zero : (a b : ℕ) → bitOr a b ≡ 0 → (a ≡ 0) × (b ≡ 0)
-or-zero a b e = (omega (arith, or-add-and a b, and-le-r a b), omega (arith, or-add-and a b, and-le-l a b))
+or-zero a b e = (omega (arith, or-within a b), omega (arith, or-within a b))
 
 -- a word that is not reached yet
 pub plain-rest : (f : ℕ → ℕ) {n : ℕ} {s₀ s : List ℕ} {i : ℕ} → Rewriting f n s₀ s i → (k : ℕ) → i ≤ k → plainAt s k ≡ plainAt s₀ k

@@ -14,7 +14,7 @@ use Rattle.bits.proofs.Fields.{length-bytes}
 use Rattle.bits.proofs.Filling.{copied-all}
 use Rattle.lanes.specs.definitions.Permutation.{Lanes, Places, named, permuted, lanesOf, laneBytes}
 use Rattle.lanes.specs.definitions.Interleaver.{sender, receiver, rowsOut, interleavedFrame, interleavedStore, deinterleavedFrame, deinterleavedStore}
-use Rattle.lanes.specs.definitions.Interleaver.{Deinterleaves}
+use Rattle.lanes.specs.definitions.Interleaver.{DeinterleavesFrame}
 use Rattle.lanes.proofs.Bytewise.{outOf, keptOf, out-is, kept-is, frame-bit, permuted-lt, rows-out-lt, lanes-lt, permuted-cong, named-16}
 
 -- a store that fills what was lent of z, its 2880 bytes behind the first 5280, and was copied there stands behind those
@@ -98,8 +98,8 @@ module _ (s o : List ℕ) where
   right-lengths e f = rw (eq-eqb (length s) 2880 e, eq-eqb (length o) 5280 f)
 
 -- a call whose lengths are right deinterleaves
-pub deinterleaved : {ex : Places} {a s o : List ℕ} {r : Bool} {s′ o′ : List ℕ} → Deinterleaves ex a s o r s′ o′ → length s ≡ 2880 → length o ≡ 5280
+pub frame-deinterleaved : {ex : Places} {a s o : List ℕ} {r : Bool} {s′ o′ : List ℕ} → DeinterleavesFrame ex a s o r s′ o′ → length s ≡ 2880 → length o ≡ 5280
     → (s′ ≡ deinterleavedStore a s) × (o′ ≡ deinterleavedFrame ex a s)
-deinterleaved {ex} {a} {s} {o} D e f =
+frame-deinterleaved {ex} {a} {s} {o} D e f =
     let t = sym (right-lengths s o e f) in
     (rw (D .store, D .done, t), rw (D .output, D .done, t))

@@ -1,48 +1,21 @@
 -- The loops by which a row's blocks come out, each block a part of five bytes of the lane's 165: `TurnsOut` is their invariant.
 -- Assumes nothing.
 use mathlib.Core.Path.{_≡_, refl, sym, ap, _∙_}
-use mathlib.Core.Bool.{Bool, true, false, cond}
-use mathlib.Core.List.{List, _++_, append-nil}
+use mathlib.Core.List.{List, _++_}
 use Prim.Native.Nat.{ℕ, _+_, _-_, _*_, _/_, _%_, _<_, _≤_, zero-le}
 use native.Mathlib.Nat.{lt-of-lt-of-le}
 use native.Mathlib.Decide.{ℕ-discrete, decLt}
 use native.Mathlib.Omega.{arith}
-use lib.Dec.{ltb}
-use lib.ListN.{getD, length, take, drop, length-append, length-take, length-drop, List·getD-append, drop-of-length-le}
-use lib.Seq.{getD-append-add, getD-take, getD-drop}
+use lib.ListN.{getD, length, take, drop, length-take, length-drop}
+use lib.Seq.{getD-take, getD-drop}
 use borrow.Author.Tests.{lt-ltb, le-ltb}
-use Rattle.bits.specs.definitions.Bits.{tabulate, copied}
+use Rattle.bits.specs.definitions.Bits.{tabulate}
 use Rattle.bits.proofs.Filling.{Filling, filling-rest}
+use Rattle.bits.proofs.Parts.{part-inside, part-before, part-behind, part-length}
 use Rattle.bits.proofs.Tabulate.{length-tabulate, getD-tabulate, is-tabulate}
 use Rattle.lanes.specs.definitions.Interleaver.{Rows}
-use Rattle.lanes.specs.private.Blocks.{rowsOf, FillStore, blockStart, blockByte, outFrom, waitedOf, TurnsOut}
+use Rattle.lanes.specs.private.Blocks.{FillStore, blockStart, blockByte, outFrom, waitedOf, TurnsOut}
 use Rattle.lanes.proofs.Starts.{frame-start, store-start, out-stored, out-entered}
-
--- ---- a part of n bytes from byte i on, put back
-
-module _ (out part : List ℕ) (i n : ℕ) (size : length part ≡ n) (room : i + n ≤ length out) where
-  front : length (take i out) ≡ i
-  front = rw (length-take) (omega arith)
-
-  pub part-inside : (k : ℕ) → k < n → getD (take i out ++ (part ++ drop n (drop i out))) (i + k) 0 ≡ getD part k 0
-  part-inside k h =
-      ap (λ (m : ℕ). getD (take i out ++ (part ++ drop n (drop i out))) (m + k) 0) (sym front)
-      ∙ getD-append-add (take i out) (part ++ drop n (drop i out)) k 0 ∙ List·getD-append part (drop n (drop i out)) 0 k (omega arith)
-
-  pub part-before : (k : ℕ) → k < i → getD (take i out ++ (part ++ drop n (drop i out))) k 0 ≡ getD out k 0
-  part-before k h = List·getD-append (take i out) (part ++ drop n (drop i out)) 0 k (omega (arith, front)) ∙ getD-take i out k 0 h
-
-  pub part-behind : (k : ℕ) → i + n ≤ k → getD (take i out ++ (part ++ drop n (drop i out))) k 0 ≡ getD out k 0
-  part-behind k h =
-      let m : ℕ = k - (i + n) in
-      let e : k ≡ length (take i out) + (length part + m) = omega (arith, front) in
-      let f : i + (n + m) ≡ k = omega arith in
-      ap (λ (x : ℕ). getD (take i out ++ (part ++ drop n (drop i out))) x 0) e
-      ∙ getD-append-add (take i out) (part ++ drop n (drop i out)) (length part + m) 0 ∙ getD-append-add part (drop n (drop i out)) m 0
-      ∙ getD-drop n (drop i out) m 0 ∙ getD-drop i out (n + m) 0 ∙ ap (λ (x : ℕ). getD out x 0) f
-
-  pub part-length : length (take i out ++ (part ++ drop n (drop i out))) ≡ length out
-  part-length = simp (length-append, length-take, length-drop) (omega arith)
 
 -- ---- turn by turn
 
@@ -169,10 +142,3 @@ own-lane {f} z {o₀} {o} p e is F h =
     let k : ℕ = 165 * p + i in
     getD-take (e - 165 * p) (drop (165 * p) o) i 0 (omega arith) ∙ getD-drop (165 * p) o i 0 ∙ filling-rest f k 0 F (omega arith)
     ∙ ap (λ (s : List ℕ). getD s k 0) is ∙ getD-take 5280 z k 0 (omega arith))
-
--- a frame copied from the front of a longer buffer
-pub copied-front : (z o₀ : List ℕ) {o : List ℕ} → o ≡ copied z o₀ → length z ≡ 8160 → length o₀ ≡ 5280 → o ≡ take 5280 z
-unfolding copied
-copied-front z o₀ {o} is lz lo =
-    let none : length o₀ ≤ length z = omega arith in
-    is ∙ ap (λ (l : List ℕ). take (length o₀) z ++ l) (drop-of-length-le o₀ none) ∙ append-nil (take (length o₀) z) ∙ ap (λ (n : ℕ). take n z) lo

@@ -2,12 +2,12 @@
 use mathlib.Core.Path.{_∙_}
 use native.Mathlib.Omega.{arith}
 use borrow.Author.Needs.{needs}
-use Rattle.bch.proofs.Digits.{joined-remainder}
+use Rattle.bch.proofs.Digits.{digits-own}
 use Rattle.bch.proofs.word_remainder.Statement.{statement}
 use Rattle.bch.proofs.word_remainder.Tie as tie
 
 returns : tie.Need-returns
-returns c = c .fold-digits .ensures ∙ joined-remainder (c .before .fold-upper .result) (omega arith) ∙ c .before .fold-upper .ensures
+returns c = c .fold-digits .ensures ∙ digits-own (c .before .fold-upper .result) (omega arith) ∙ c .before .fold-upper .ensures
 
 pub word-remainder-spec : {M : Type 1} → statement M
 word-remainder-spec =

@@ -6,12 +6,12 @@ use lib.ListN.{getD}
 use Rattle.bits.specs.definitions.Bits.{tabulate}
 
 -- the number of four digits, the top one first
-abbrev pub joined : ℕ → ℕ → ℕ → ℕ → ℕ
-joined a b c d = ((a * 65536 + b) * 65536 + c) * 65536 + d
+abbrev pub ofDigits : ℕ → ℕ → ℕ → ℕ → ℕ
+ofDigits a b c d = ((a * 65536 + b) * 65536 + c) * 65536 + d
 
 -- number i of a row of digits, four a number, the lowest first
-abbrev pub numberAt : List ℕ → ℕ → ℕ
-numberAt s i = joined (getD s (4 * i + 3) 0) (getD s (4 * i + 2) 0) (getD s (4 * i + 1) 0) (getD s (4 * i) 0)
+abbrev pub ofDigitsAt : List ℕ → ℕ → ℕ
+ofDigitsAt s i = ofDigits (getD s (4 * i + 3) 0) (getD s (4 * i + 2) 0) (getD s (4 * i + 1) 0) (getD s (4 * i) 0)
 
 -- digit j of a row of numbers, in that order
 unfoldable pub digitAt : List ℕ → ℕ → ℕ

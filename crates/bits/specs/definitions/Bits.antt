@@ -41,10 +41,6 @@ loadedAt s o = cond (ltb (length s) (o + 8)) 0 (fieldAt s (8 * o) 64)
 unfoldable pub bytes : ℕ → (ℕ → ℕ) → List ℕ
 bytes n f = tabulate n (λ b. number 8 (λ i. f (8 * b + i)))
 
--- the eight bytes of a number in the other order
-unfoldable pub reversed : ℕ → ℕ
-reversed v = value 256 8 (λ j. v / 2 ^ (8 * j) % 256)
-
 -- every element is a byte
 pub record AllBytes (s : List ℕ) : Type 0 where
   pub byte : (m : ℕ) → getD s m 0 < 256

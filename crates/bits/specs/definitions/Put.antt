@@ -15,6 +15,6 @@ pub record Put (n v o : ℕ) (d l : List ℕ) : Type 0 where
   pub is : fieldAt l (8 * o) (8 * n) ≡ v
 
 -- the list l is d with the number v as its eight bytes from place o on; where there are not eight, it is d
-pub record Puts (v o : ℕ) (d l : List ℕ) : Type 0 where
+pub record PutEight (v o : ℕ) (d l : List ℕ) : Type 0 where
   pub room : o + 8 ≤ length d → Put 8 v o d l
   pub none : length d < o + 8 → l ≡ d

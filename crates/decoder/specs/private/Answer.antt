@@ -43,7 +43,7 @@ placesOf (One i) = record { first = i; second = 127 }
 placesOf (Two i j) = record { first = i; second = j }
 placesOf Flagged = record { first = 127; second = 127 }
 
--- whether a place is a bit's
+-- 1 for the place of a bit, else 0
 unfoldable pub countOf : ℕ → ℕ
 countOf i = cond (ltb i 126) 1 0
 
@@ -60,7 +60,7 @@ pub record Tells (m : Mend) (f : Found) : Type 0 where
   pub flag : f .flag ≡ flagOf m
   pub within : (f .places .first < 128) × (f .places .second < 128)
 
--- and m from it
+-- the pattern that was found
 unfoldable pub patternOf : Found → Mend
 patternOf f =
     cond (eqb (f .flag) 0) Clean
@@ -80,10 +80,11 @@ plainAt s i = getD s (2 * i) 0 * 2 ^ 64 + getD s (2 * i + 1) 0
 pub record HasRemainders (n : ℕ) (s rest : List ℕ) : Type 0 where
   pub remains : (i : ℕ) → i < n → getD rest i 0 ≡ remainder 126 (plainAt s i)
 
--- what word i of a row is passed on as, and its flag byte
+-- what word i of a row is passed on as
 abbrev pub passed : List ℕ → ℕ → ℕ
 passed s i = mended (plainAt s i) (mend (plainAt s i))
 
+-- and its flag byte
 abbrev pub flagAt : List ℕ → ℕ → ℕ
 flagAt s i = flagOf (mend (plainAt s i))
 

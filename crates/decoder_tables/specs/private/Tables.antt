@@ -50,7 +50,8 @@ locatedPair field log cube one other place s =
 abbrev pub locatedRising : (field log cube one other place : List ℕ) → ℕ → Pair
 locatedRising field log cube one other place s = risingOf (locatedPair field log cube one other place s)
 
--- `places`: from the remainder of at most two bits the look-ups lead to their places, 127 for none; and from any remainder they stay within the tables
+-- `places`: from the remainder of at most two bits the look-ups lead to their places, 127 for none; and from any remainder they stay
+-- within the tables, ways being bytes
 pub record Finds (field log cube one other place : List ℕ) : Type 0 where
   pub no-bit : locatedRising field log cube one other place 0 ≡ record { first = 127; second = 127 }
   pub one-bit : (i : ℕ) → i < 126 → locatedRising field log cube one other place (column i) ≡ record { first = i; second = 127 }

@@ -1,11 +1,10 @@
 -- `framing::lanes_out` meets its contract: the lengths are right, so what the words bring is deinterleaved; and the flags are copied. Assumes nothing.
 use mathlib.Core.Path.{ap, _∙_}
-use mathlib.Core.Bool.{Bool, cond}
 use mathlib.Core.List.{List}
 use Prim.Native.Nat.{ℕ}
 use Rattle.bits.proofs.Filling.{copied-all}
 use Rattle.lanes.specs.definitions.Interleaver.{deinterleavedFrame, deinterleavedStore}
-use Rattle.lanes.proofs.Frames.{deinterleaved}
+use Rattle.lanes.proofs.Frames.{frame-deinterleaved}
 use Rattle.framing.specs.definitions.Call.{base}
 use borrow.Author.Needs.{needs}
 use Rattle.framing.proofs.lanes_out.Statement.{statement}
@@ -19,7 +18,7 @@ returns c =
     let start = lanes .before .before .before .before .before in
     let a = start .args in
     let l = start .pre in
-    let D = deinterleaved (back .deinterleave .ensures) (l .0) (l .1) in (
+    let D = frame-deinterleaved (back .deinterleave .ensures) (l .0) (l .1) in (
       D .1 ∙ ap (λ (x : List ℕ). deinterleavedFrame base x (a .store .now)) (lanes .to-lanes .ensures),
       D .0 ∙ ap (λ (x : List ℕ). deinterleavedStore x (a .store .now)) (lanes .to-lanes .ensures),
       copy .copy .ensures ∙ copied-all _ _ (let f = l .2 in search needs),

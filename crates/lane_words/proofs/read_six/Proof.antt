@@ -11,11 +11,11 @@ use Rattle.lane_words.proofs.read_six.Statement.{statement}
 use Rattle.lane_words.proofs.read_six.Tie as tie
 
 -- number i from byte o on
-abbrev numberAt : List ℕ → ℕ → ℕ → ℕ
-numberAt s o i = fieldAt s (8 * o + 64 * i) 64
+abbrev fromByte : List ℕ → ℕ → ℕ → ℕ
+fromByte s o i = fieldAt s (8 * o + 64 * i) 64
 
 abbrev Inv-loop : tie.InvT-loop
-Inv-loop s o six₀ i₀ six i = Filling (numberAt s o) (length six₀) six₀ six i
+Inv-loop s o six₀ i₀ six i = Filling (fromByte s o) (length six₀) six₀ six i
 
 abbrev μ-loop : tie.MeasureT-loop
 μ-loop s o six₀ i₀ six i = 6 - i

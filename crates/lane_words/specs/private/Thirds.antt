@@ -55,5 +55,6 @@ acrossOf lo hi a = informationIn lo % 2 ^ a * 2 ^ (64 - a) + hi * 2 ^ 2 % 2 ^ 64
 abbrev pub thirdByte : List ℕ → ℕ → ℕ → ℕ
 thirdByte a g c = getD a (55 * g + c) 0
 
+-- byte c of lane p
 abbrev pub laneByte : List ℕ → ℕ → ℕ → ℕ
 laneByte a p c = getD a (165 * p + c) 0

@@ -1,15 +1,15 @@
 -- `lanes::interleave` meets its contract: `interleave-law`. Assumes nothing.
 use native.Mathlib.Omega.{arith}
+use Rattle.bits.proofs.Parts.{copied-front}
 use Rattle.lanes.proofs.Entries.{is-masks}
 use Rattle.lanes.proofs.Frames.{interleave-law}
-use Rattle.lanes.proofs.Turns.{copied-front}
 use Rattle.lanes.proofs.interleave.Statement.{statement}
 use Rattle.lanes.proofs.interleave.Tie as tie
 
 lanes-out-requires : tie.Need-lanes-out-requires
 lanes-out-requires c κs =
     let copy = c .before .before in
-    (omega arith, copied-front _ _ (copy .copy .ensures) (omega arith) (omega arith))
+    (omega arith, copied-front 5280 _ _ (copy .copy .ensures) (omega arith) (omega arith))
 
 returns : tie.Need-returns
 returns c =

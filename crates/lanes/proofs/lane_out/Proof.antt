@@ -1,7 +1,6 @@
 -- `lanes::lane_out` meets its contract: two rows, each from the store and then from the frame. Assumes nothing.
 use Prim.Native.Nat.{_+_, zero-le}
 use native.Mathlib.Omega.{arith}
-use borrow.Author.Needs.{needs}
 use Rattle.lanes.specs.private.Blocks.{rowsOf}
 use Rattle.lanes.proofs.Turns.{turns-then, waited-within, lane-done}
 use Rattle.lanes.proofs.lane_out.Statement.{statement}

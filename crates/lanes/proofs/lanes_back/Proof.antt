@@ -1,15 +1,15 @@
 -- `lanes::lanes_back` meets its contract: `deinterleave-law`. Assumes nothing.
 use native.Mathlib.Omega.{arith}
+use Rattle.bits.proofs.Parts.{copied-front}
 use Rattle.lanes.proofs.Entries.{is-masks}
 use Rattle.lanes.proofs.Frames.{deinterleave-law}
-use Rattle.lanes.proofs.Turns.{copied-front}
 use Rattle.lanes.proofs.lanes_back.Statement.{statement}
 use Rattle.lanes.proofs.lanes_back.Tie as tie
 
 lanes-out-requires : tie.Need-lanes-out-requires
 lanes-out-requires c κs =
     let copy = c .before .before .before in
-    (omega arith, copied-front _ _ (copy .copy2 .ensures) (omega arith) (omega arith))
+    (omega arith, copied-front 5280 _ _ (copy .copy2 .ensures) (omega arith) (omega arith))
 
 returns : tie.Need-returns
 returns c =

@@ -76,7 +76,7 @@ unfoldable pub deinterleavedStore : List ℕ → List ℕ → List ℕ
 deinterleavedStore a s = storeNext receiver s (lanesOf a)
 
 -- a call that deinterleaves the lanes a, with the store s and the lanes o to be written: whether both are as long as they must be, and both at exit
-pub record Deinterleaves (ex : Places) (a s o : List ℕ) (r : Bool) (s′ o′ : List ℕ) : Type 0 where
+pub record DeinterleavesFrame (ex : Places) (a s o : List ℕ) (r : Bool) (s′ o′ : List ℕ) : Type 0 where
   pub done : r ≡ (eqb (length s) 2880 && eqb (length o) 5280)
   pub store : s′ ≡ cond r (deinterleavedStore a s) s
   pub output : o′ ≡ cond r (deinterleavedFrame ex a s) o
