@@ -61,7 +61,7 @@ fn mended_words(input: &[u8], words: &mut [u64; 768], flags: &mut [u8; 384])
     requires { ⌜ length (now input) ≡ 6144 ⌝ }
     ensures { λ _. ⌜ (now (words .exit) ≡ receivedWords (now (input .entry))) × (now (flags .exit) ≡ receivedFlags (now (input .entry))) ⌝ }
 {
-    symbols::words_from_frame(input, words);
+    demapping::words_from_frame(input, words);
     decoder::decode_frame(words, flags);
 }
 

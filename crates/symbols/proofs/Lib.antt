@@ -1,5 +1,4 @@
 pub mod Places
 pub mod Symbols
-pub mod Gathering
 pub mod Return
 pub mod Determined

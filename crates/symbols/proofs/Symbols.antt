@@ -23,7 +23,8 @@ use Rattle.shuffle.specs.definitions.Shuffle.{unplace, shuffled}
 use Rattle.symbols.specs.definitions.Mapping.{laneOf, upper, lower}
 use Rattle.pilots.specs.definitions.Table5.{pilots}
 use Rattle.symbols.specs.definitions.Frame.{carriedBit, payload, symbolAt, frameOf}
-use Rattle.symbols.specs.private.Numbers.{laneIn, tributaryIn, mapped, dibitIn, dibitsAt, swapped, quarterAt, byteOfTwo}
+use Rattle.symbols.specs.definitions.Dibits.{dibitIn, swapped}
+use Rattle.symbols.specs.private.Numbers.{laneIn, tributaryIn, mapped, dibitsAt, quarterAt, byteOfTwo}
 
 -- ---- a symbol's number by its remainder
 
@@ -42,12 +43,6 @@ lane-mod l t =
 pub fours : (x y k : ℕ) → y ≡ x + k * 4 → x % 4 ≡ y % 4
 fours x y k e = sym (ap (λ (n : ℕ). n % 4) e ∙ add-mul-mod-self-right x k 4)
 
-pub tributary-mod : (l r : ℕ) → tributaryIn (l % 4) r ≡ tributaryIn l r
-unfolding tributaryIn
-tributary-mod l r =
-    let p : l / 2 % 2 ≡ l % 4 / 2 % 2 = omega arith in
-    fours (r + 3 * (2 * (l % 4) + l % 4 / 2 % 2)) (r + 3 * (2 * l + l / 2 % 2)) (6 * (l / 4)) (omega arith)
-
 mapped-mod : (l y : ℕ) → mapped (l % 4) y ≡ mapped l y
 unfolding mapped
 mapped-mod l y = value-cong 2 8 _ _ (λ i b. let e : (i + l % 4) % 2 ≡ (i + l) % 2 = omega arith in λ k. bitOf 8 y (2 * lane-mod l (i / 2) k + e k))
@@ -65,6 +60,13 @@ put-dibit-law x e t he ht =
     let q : 6 - 2 * t ≡ 2 * (3 - t) = omega arith in
     shl-exact 2 (6 - 2 * t) 8 (mod-lt (x / 2 ^ (6 - 2 * e)) (lit< tt)) (omega arith)
     ∙ λ k. x / (ap (λ (n : ℕ). 2 ^ n) p ∙ four-pow (3 - e)) k % 4 * (ap (λ (n : ℕ). 2 ^ n) q ∙ four-pow (3 - t)) k
+
+-- from what the code promises, which counts dibits by their remainders
+pub put-dibit-at : (x e t v : ℕ) → e < 4 → t < 4 → v ≡ dibitIn (e % 4) x * 4 ^ (3 - t % 4) → v ≡ dibitIn e x * 4 ^ (3 - t)
+put-dibit-at x e t v he ht p =
+    let a : e % 4 ≡ e = omega arith in
+    let b : t % 4 ≡ t = omega arith in
+    p ∙ λ k. dibitIn (a k) x * 4 ^ (3 - b k)
 
 -- four dibits at the tributaries of their lanes
 abbrev pub atTributaries : ℕ → ℕ → ℕ → ℕ → ℕ → ℕ

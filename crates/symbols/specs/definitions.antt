@@ -1,2 +1,3 @@
 pub mod Mapping
 pub mod Frame
+pub mod Dibits

@@ -1,7 +1,7 @@
 -- `framing::mended_words` meets its contract: the length is right, so the words are read; and mended. Assumes nothing.
 use mathlib.Core.Path.{ap, _∙_}
 use Rattle.decoder.specs.definitions.Word.{mendedFrame, flagsOf}
-use Rattle.symbols.proofs.Gathering.{frame-read}
+use Rattle.demapping.proofs.Gathering.{frame-read}
 use Rattle.framing.specs.definitions.Receive.{receivedFlags}
 use borrow.Author.Needs.{needs}
 use Rattle.framing.proofs.mended_words.Statement.{statement}

@@ -1,4 +1,5 @@
 -- `symbols::put_dibit` meets its contract: `put-dibit-law`. Assumes nothing.
+use Prim.Native.Nat.{_%_}
 use native.Mathlib.Omega.{arith}
 use Rattle.symbols.proofs.Symbols.{put-dibit-law}
 use borrow.Author.Needs.{needs}
@@ -15,4 +16,4 @@ put-dibit-spec =
     (λ c. search needs)
     (λ c. search needs)
     (λ c. search needs)
-    (λ c. put-dibit-law (c .args .x) (c .args .e) (c .args .t) (omega arith) (omega arith)))
+    (λ c. put-dibit-law (c .args .x) (c .args .e % 4) (c .args .t % 4) (omega arith) (omega arith)))

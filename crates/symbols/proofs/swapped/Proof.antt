@@ -1,6 +1,6 @@
 -- `symbols::swapped` meets its contract: the code is the definition. Assumes nothing.
 use mathlib.Core.Path.{refl}
-use Rattle.symbols.specs.private.Numbers.{swapped}
+use Rattle.symbols.specs.definitions.Dibits.{swapped}
 use Rattle.symbols.proofs.swapped.Statement.{statement}
 use Rattle.symbols.proofs.swapped.Tie as tie
 

@@ -1,12 +1,13 @@
 -- `symbols::symbol` meets its contract: `symbol-values`. Assumes nothing.
 use mathlib.Core.Path.{_≡_, _∙_}
-use Prim.Native.Nat.{_+_, _*_, _<_}
+use Prim.Native.Nat.{ℕ, _+_, _*_, _-_, _/_, _%_, _^_, _<_}
 use native.Mathlib.Nat.{mod-lt}
 use native.Mathlib.Omega.{arith}
 use lib.Dec.{lit<}
 use borrow.Author.Tests.{eq-eqb, ne-eqb}
-use Rattle.symbols.specs.private.Numbers.{mapped, dibitIn}
-use Rattle.symbols.proofs.Symbols.{turned, symbol-values}
+use Rattle.symbols.specs.definitions.Dibits.{dibitIn}
+use Rattle.symbols.specs.private.Numbers.{mapped}
+use Rattle.symbols.proofs.Symbols.{put-dibit-at, turned, symbol-values}
 use borrow.Author.Needs.{needs}
 use Rattle.symbols.proofs.symbol.Statement.{statement}
 use Rattle.symbols.proofs.symbol.Tie as tie
@@ -16,9 +17,18 @@ values : (c : tie.After-put-dibit4)
     let v = c .before .before .before .put-dibit .result + c .before .before .put-dibit2 .result + c .before .put-dibit3 .result + c .put-dibit4 .result in
     (turned (a .l) v ≡ mapped (a .l) (dibitIn (a .e) (a .a) * 64 + dibitIn (a .e) (a .b) * 16 + dibitIn (a .e) (a .c) * 4 + dibitIn (a .e) (a .d))) × (v < 256)
 values c =
-    let a = c .before .before .before .before in
-    symbol-values (a .args .l) _ _ _ _ _ _ _ _ (a .pre .1) (mod-lt _ (lit< tt)) (mod-lt _ (lit< tt)) (mod-lt _ (lit< tt)) (mod-lt _ (lit< tt))
-    (c .before .before .before .put-dibit .ensures) (c .before .before .put-dibit2 .ensures) (c .before .put-dibit3 .ensures) (c .put-dibit4 .ensures)
+    let start = c .before .before .before .before in
+    let a = start .args in
+    let f = 3 * (2 * a .l + a .l / 2 % 2) in
+    symbol-values (a .l) _ _ _ _ _ _ _ _ (start .pre .1) (mod-lt _ (lit< tt)) (mod-lt _ (lit< tt)) (mod-lt _ (lit< tt)) (mod-lt _ (lit< tt))
+    (put (a .a) f (c .before .before .before .put-dibit .ensures)) (put (a .b) (1 + f) (c .before .before .put-dibit2 .ensures))
+    (put (a .c) (2 + f) (c .before .put-dibit3 .ensures)) (put (a .d) (3 + f) (c .put-dibit4 .ensures))
+  where
+    e : ℕ
+    e = c .before .before .before .before .args .e
+
+    put : (x n : ℕ) {v : ℕ} → v ≡ dibitIn (e % 4) x * 4 ^ (3 - n % 4 % 4) → v ≡ dibitIn e x * 4 ^ (3 - n % 4)
+    put x n = put-dibit-at x e (n % 4) _ (c .before .before .before .before .pre .0) (mod-lt n (lit< tt))
 
 add-v : tie.Need-add-v
 add-v c = omega (arith, values c .1)

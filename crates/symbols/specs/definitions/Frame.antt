@@ -1,10 +1,9 @@
 -- A frame of 6,144 symbols and the 384 words that it carries, word 32 k + p being word k of lane p (01, one frame in numbers, mapping and pilots).
 -- Assumes nothing.
-use mathlib.Core.Path.{_≡_}
-use mathlib.Core.Bool.{Bool, cond}
+use mathlib.Core.Bool.{cond}
 use mathlib.Core.List.{List}
 use Prim.Native.Nat.{ℕ, _+_, _*_, _-_, _/_, _%_}
-use lib.ListN.{length, getD}
+use lib.ListN.{getD}
 use lib.Dec.{eqb}
 use Rattle.bits.specs.definitions.Bits.{tabulate, number, bitOf, bitAt}
 use Rattle.bits.specs.definitions.Words.{wordAt, rowOf}
@@ -39,8 +38,3 @@ arrived f i = number 126 (λ q. placedBit f (i / 32) (i % 32) (place (i % 32) q)
 -- the row of the words of a frame; its pilots are not looked at
 unfoldable pub wordsOf : List ℕ → List ℕ
 wordsOf f = rowOf 384 (arrived f)
-
--- a call that reads the words of the frame f, with the row w to be written: whether the frame is as long as it must be, and the row at exit
-pub record ReadsFrame (f w : List ℕ) (r : Bool) (w′ : List ℕ) : Type 0 where
-  pub done : r ≡ eqb (length f) 6144
-  pub words : w′ ≡ cond r (wordsOf f) w

@@ -2,11 +2,11 @@
 -- Assumes nothing.
 use mathlib.Core.Bool.{cond}
 use mathlib.Core.List.{List}
-use Prim.Native.Nat.{ℕ, _+_, _*_, _-_, _/_, _%_, _^_}
-use lib.Bits.{bitAnd, bitOr}
+use Prim.Native.Nat.{ℕ, _+_, _*_, _/_, _%_, _^_}
 use lib.Dec.{ltb}
-use lib.ListN.{getD, drop}
+use lib.ListN.{getD}
 use Rattle.bits.specs.definitions.Bits.{number, bitOf}
+use Rattle.symbols.specs.definitions.Dibits.{dibitIn}
 
 -- of the four lanes that symbol l carries, the one that tributary t has
 unfoldable pub laneIn : ℕ → ℕ → ℕ
@@ -20,17 +20,9 @@ tributaryIn l r = (r + 3 * (2 * l + l / 2 % 2)) % 4
 unfoldable pub mapped : ℕ → ℕ → ℕ
 mapped l y = number 8 (λ i. bitOf 8 y (2 * laneIn l (i / 2) + (i + l) % 2))
 
--- dibit e of a byte, the first on top
-abbrev pub dibitIn : ℕ → ℕ → ℕ
-dibitIn e x = x / 4 ^ (3 - e) % 4
-
 -- dibit e of each of four bytes, sixteen apart, from byte m on, side by side
 unfoldable pub dibitsAt : List ℕ → ℕ → ℕ → ℕ
 dibitsAt b e m = dibitIn e (getD b m 0) * 64 + dibitIn e (getD b (m + 16) 0) * 16 + dibitIn e (getD b (m + 32) 0) * 4 + dibitIn e (getD b (m + 48) 0)
-
--- each dibit of a byte with its two bits swapped
-unfoldable pub swapped : ℕ → ℕ
-swapped x = bitOr (bitAnd (x / 2) 85) (bitAnd x 85 * 2 % 256)
 
 -- of every fourth symbol of a frame from symbol e on, number j, which stands in row j / 16: from the bytes of the words, 64 a row
 unfoldable pub quarterAt : List ℕ → ℕ → ℕ → ℕ
@@ -39,37 +31,3 @@ quarterAt b e j = mapped ((3 * (j / 16) + 3 + e) % 4) (dibitsAt b e (64 * (j / 1
 -- byte t of the bytes of two rows of numbers of 16 bits, the lower byte first, two and two in turn
 unfoldable pub byteOfTwo : List ℕ → List ℕ → ℕ → ℕ
 byteOfTwo x y t = cond (ltb (t % 4) 2) (getD x (t / 4) 0) (getD y (t / 4) 0) / 256 ^ (t % 2) % 256
-
--- ---- the way back
-
--- the dibit of lane r, of the four, in symbol l's byte x
-unfoldable pub dibitOf : ℕ → ℕ → ℕ → ℕ
-dibitOf l r x = bitOf 8 x (2 * tributaryIn l r + l % 2) * 2 + bitOf 8 x (2 * tributaryIn l r + (l + 1) % 2)
-
--- a byte of the word of lane r: its dibits in four symbols, of which the first is number l
-unfoldable pub gathered : ℕ → ℕ → ℕ → ℕ → ℕ → ℕ → ℕ
-gathered l r a b c d = dibitOf l r a * 64 + dibitOf (l + 1) r b * 16 + dibitOf (l + 2) r c * 4 + dibitOf (l + 3) r d
-
--- byte i of n bytes in two lists, one behind the other, one byte to each in turn
-unfoldable pub partedAt : ℕ → List ℕ → ℕ → ℕ
-partedAt n s i = cond (ltb i (n / 2)) (getD s (2 * i) 0) (getD s (2 * (i - n / 2) + 1) 0)
-
--- byte i of two halves of 512 bytes, each of which is in two lists so
-unfoldable pub halvesAt : List ℕ → ℕ → ℕ
-halvesAt s i = partedAt 512 (drop (512 * (i / 512)) s) (i % 512)
-
--- such a byte from four lists of 256 symbols, one symbol in each in turn, at place m of each. Symbols parted twice stand so: of each four the first, the
--- third, the second and the fourth
-unfoldable pub gatheredFrom : List ℕ → ℕ → ℕ → ℕ → ℕ
-gatheredFrom s l r m = gathered l r (getD s m 0) (getD s (m + 512) 0) (getD s (m + 256) 0) (getD s (m + 768) 0)
-
--- byte i of the words of sixteen rows in such lists, 64 a row; the first row's first symbol is number 3
-unfoldable pub rowsAt : List ℕ → ℕ → ℕ
-rowsAt s i = gatheredFrom s (3 * (i / 64) + 3) (i / 16 % 4) (16 * (i / 64) + i % 16)
-
--- byte t of the words of a frame with their bits at their places, sixteen a word. The pilot's dibit stands above a word's 126 bits, where it is no part of
--- the word
-unfoldable pub gatheredAt : List ℕ → ℕ → ℕ
-gatheredAt f t =
-    let at = 64 * (t / 64) + 4 * (t % 16) in
-    gathered (3 * (t / 64) + 3) (t / 16 % 4) (getD f at 0) (getD f (at + 1) 0) (getD f (at + 2) 0) (getD f (at + 3) 0)
