@@ -75,7 +75,7 @@ static PAIRS: [Pair; 4] = [
                 line: 16,
             },
             Table {
-                comment: "For a^e of the field, 125 - e round 127: the place of the bit whose value at a it is. \
+                comment: "For a^e of the field, 125 - e round 127: the place of the bit whose value at a it is, or 126, of which there is none. \
                     0 for 0.",
                 name: "LOG",
                 element: "u8",
@@ -115,7 +115,7 @@ static PAIRS: [Pair; 4] = [
                 line: 16,
             },
             Table {
-                comment: "A number round 127, which is a place; from 254 on it is 127, no place. It is a place and what is looked up behind it.",
+                comment: "A number round 127; from 254 on it is 127, no place. The number is a place and the way behind it.",
                 name: "PLACE",
                 element: "u8",
                 length: ROUND + 255,

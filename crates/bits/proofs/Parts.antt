@@ -106,8 +106,8 @@ module _ (f : ℕ → ℕ) {m : ℕ} {out : List ℕ} where
       stored l s v k (yes e) h ev old = rw e (getD-set-same l s v 0 h ∙ ev)
       stored l s v k (no ne) h ev old = getD-set-other l s k v 0 ne ∙ old ne
 
-  pub parts-done : {i : ℕ} → FourParts f m out i → m ≤ i → out ≡ tabulate (4 * m) f
-  parts-done {i} F h = is-tabulate 0 out (4 * m) f (F .long) (λ k l. at k (decLt k m) (decLt k (2 * m)) (decLt k (3 * m)) l)
+  pub parts-done : {i n : ℕ} → FourParts f m out i → m ≤ i → n ≡ 4 * m → out ≡ tabulate n f
+  parts-done {i} {n} F h e = is-tabulate 0 out n f (F .long ∙ sym e) (λ k l. at k (decLt k m) (decLt k (2 * m)) (decLt k (3 * m)) (omega arith))
     where
       at : (k : ℕ) → Dec (k < m) → Dec (k < 2 * m) → Dec (k < 3 * m) → k < 4 * m → getD out k 0 ≡ f k
       at k (yes a) b c l = F .first k (omega arith)

@@ -4,7 +4,6 @@ use mathlib.Core.Path.{_≡_, refl, sym, ap, _∙_}
 use Prim.Native.Nat.{ℕ, zero, suc, _+_, _-_, _*_, _/_, _%_, _^_, _≤_, _<_}
 use native.Mathlib.Nat.{le-refl, sub-self, add-zero, add-suc, add-assoc, mul-one, mul-assoc, add-mul, pow-zero, pow-suc, sub-zero, div-eq-of-lt, div-one}
 use native.Mathlib.Nat.{div-div-eq-div-mul, div-add-mod'}
-use native.Mathlib.Numerals.{add-one}
 use native.Mathlib.Omega.{arith}
 use lib.Arith.{digits-lt, digits-div, digits-mod}
 use lib.Bits.{bitAnd, bitXor, differ, and-shr, and-mod, xor-shr}

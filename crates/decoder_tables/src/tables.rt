@@ -518,7 +518,7 @@ pub const FIELD: [u16; 512] = [
     16123,
 ];
 
-// For a^e of the field, 125 - e round 127: the place of the bit whose value at a it is. 0 for 0.
+// For a^e of the field, 125 - e round 127: the place of the bit whose value at a it is, or 126, of which there is none. 0 for 0.
 pub const LOG: [u8; 128] = [
     0,
     125,
@@ -1302,7 +1302,7 @@ pub const OTHER: [u8; 255] = [
     254,
 ];
 
-// A number round 127, which is a place; from 254 on it is 127, no place. It is a place and what is looked up behind it.
+// A number round 127; from 254 on it is 127, no place. The number is a place and the way behind it.
 pub const PLACE: [u8; 382] = [
     0,
     1,

@@ -1,17 +1,15 @@
 -- From symbols to words: a word's byte from four symbols, the frame's symbols in four lists, one in each in turn, and the words of a frame with their bits
 -- at their places and back from them.
 -- Assumes nothing.
-use mathlib.Core.Path.{_≡_, refl, sym, ap, ap₂, _∙_, subst}
-use mathlib.Core.Logic.{_≢_}
+use mathlib.Core.Path.{_≡_, refl, sym, ap, ap₂, _∙_}
 use mathlib.Core.Bool.{Bool, cond}
 use mathlib.Core.List.{List}
 use Prim.Native.Nat.{ℕ, zero, suc, _+_, _-_, _*_, _/_, _%_, _^_, _<_, _≤_, zero-le}
-use native.Mathlib.Nat.{add-zero, not-suc-le-zero}
-use native.Mathlib.Decide.{ℕ-discrete}
+use native.Mathlib.Nat.{add-zero}
 use native.Mathlib.Omega.{arith}
 use lib.Dec.{T, eqb, eqb→eq}
-use lib.ListN.{length, getD, set, take, drop, length-set}
-use lib.Seq.{getD-drop, getD-take, getD-set-same, getD-set-other}
+use lib.ListN.{length, getD, set, take, drop}
+use lib.Seq.{getD-drop, getD-take}
 use borrow.Author.Tests.{eq-eqb, lt-ltb, le-ltb}
 use Rattle.bits.specs.definitions.Bits.{value, number, bitOf, bitAt, fieldAt, tabulate, AllBytes}
 use Rattle.bits.specs.definitions.Words.{wordOf, wordAt}
@@ -19,7 +17,8 @@ use Rattle.bits.proofs.Table.{each, range-rule}
 use Rattle.bits.proofs.Value.{value-cong, bit-lt, bit-number}
 use Rattle.bits.proofs.Fields.{bitAt-lt, bitAt-byte, field-is, field-join, field-low}
 use Rattle.bits.proofs.Filling.{Filling, filling-start, filling-put, filling-done}
-use Rattle.bits.proofs.Tabulate.{getD-tabulate, tabulate-cong, is-tabulate}
+use Rattle.bits.proofs.Parts.{FourParts, parts-step}
+use Rattle.bits.proofs.Tabulate.{getD-tabulate, tabulate-cong}
 use Rattle.bits.proofs.Words.{row-cong}
 use Rattle.shuffle.specs.definitions.Shuffle.{place, unshuffled}
 use Rattle.shuffle.proofs.Places.{place-lt}
@@ -137,73 +136,15 @@ module _ (l r : ℕ) (s : ℕ → ℕ) where
   unfolding gatheredBit
   gathered-bit m h = ap (λ (v : ℕ). bitOf 8 v m) gathered-number ∙ bit-number 8 gatheredBit (λ i _. bit-lt 8 _ _) m h
 
--- ---- the loop that stores a byte of each of a row's four words
-
--- how many bytes are stored before byte j of the row
-unfoldable pub order : ℕ → ℕ
-order j = 4 * (j % 16) + j / 16
-
--- no two are stored in the same step
-order-same : (i j : ℕ) → i < 64 → j < 64 → order i ≡ order j → i ≡ j
-unfolding order
-order-same i j hi hj e = parts i ∙ same (i / 16) (i % 16) (j / 16) (j % 16) (omega arith) (omega arith) e ∙ sym (parts j)
-  where
-    parts : (j : ℕ) → j ≡ 16 * (j / 16) + j % 16
-    parts j = omega arith
-
-    same : (a b c d : ℕ) → a < 4 → c < 4 → 4 * b + a ≡ 4 * d + c → 16 * a + b ≡ 16 * c + d
-    same a b c d ha hc e = omega arith
-
--- the first n bytes that are stored are there
-pub record Storing (f : ℕ → ℕ) (out : List ℕ) (n : ℕ) : Type 0 where
-  pub long : length out ≡ 64
-  pub is : (j : ℕ) → j < 64 → order j < n → getD out j 0 ≡ f j
-
-module _ (f : ℕ → ℕ) where
-  pub row-start : {out : List ℕ} → length out ≡ 64 → Storing f out (4 * 0)
-  row-start e = record { long = e; is = λ j h l. absurd (not-suc-le-zero l) }
-
-  -- byte i of word q
-  store : {out : List ℕ} (q i o n v : ℕ) → Storing f out n → q < 4 → i < 16 → o ≡ 16 * q + i → n ≡ 4 * i + q → v ≡ f o → Storing f (set out o v) (n + 1)
-  unfolding order
-  store {out} q i o n v S hq hi eo en e = record { long = length-set out o v ∙ S .long; is = λ j b l. at j (ℕ-discrete j o) b l }
-    where
-      turn : order o ≡ n
-      turn =
-          let a : o % 16 ≡ i = omega arith in
-          let b : o / 16 ≡ q = omega arith in
-          omega arith
-
-      at : (j : ℕ) → Dec (j ≡ o) → j < 64 → order j < n + 1 → getD (set out o v) j 0 ≡ f j
-      at j (yes p) b l = rw p (getD-set-same out o v 0 (omega (arith, S .long)) ∙ e)
-      at j (no ne) b l =
-          let d : order j ≢ n = λ p. ne (order-same j o b (omega arith) (p ∙ sym turn)) in
-          getD-set-other out o j v 0 ne ∙ S .is j b (omega arith)
-
-  -- byte i of each of the four
-  row-step : {out : List ℕ} (i a b c d : ℕ) → Storing f out (4 * i) → i < 16 → a ≡ f i → b ≡ f (16 + i) → c ≡ f (32 + i) → d ≡ f (48 + i)
-      → Storing f (set (set (set (set out i a) (16 + i) b) (32 + i) c) (48 + i) d) (4 * (i + 1))
-  row-step i a b c d S h ea eb ec ed =
-      let n : 4 * i + 1 + 1 + 1 + 1 ≡ 4 * (i + 1) = omega arith in
-      subst (Storing f _) n
-      (store 3 i (48 + i) _ d
-      (store 2 i (32 + i) _ c
-      (store 1 i (16 + i) _ b (store 0 i i (4 * i) a S (omega arith) h (omega arith) (omega arith) ea) (omega arith) h (omega arith) (omega arith) eb)
-      (omega arith) h (omega arith) (omega arith) ec) (omega arith) h (omega arith) (omega arith) ed)
-
-  pub row-done : {out : List ℕ} {i n : ℕ} → Storing f out (4 * i) → 16 ≤ i → n ≡ 64 → out ≡ tabulate n f
-  unfolding order
-  row-done {out} {i} {n} S h e = is-tabulate 0 out n f (S .long ∙ sym e) (λ j l. S .is j (omega arith) (omega arith))
-
 -- ---- rows of words
 
 module _ (s : List ℕ) where
   -- byte i of each of a row's words
-  pub words-step : (l at i a b c d : ℕ) {out : List ℕ} → Storing (λ j. gatheredFrom s l (j / 16) (at + j % 16)) out (4 * i) → i < 16
+  pub words-step : (l at i a b c d : ℕ) {out : List ℕ} → FourParts (λ j. gatheredFrom s l (j / 16) (at + j % 16)) 16 out i → i < 16
       → a ≡ gatheredFrom s l 0 (at + i) → b ≡ gatheredFrom s l 1 (at + i) → c ≡ gatheredFrom s l 2 (at + i) → d ≡ gatheredFrom s l 3 (at + i)
-      → Storing (λ j. gatheredFrom s l (j / 16) (at + j % 16)) (set (set (set (set out i a) (16 + i) b) (32 + i) c) (48 + i) d) (4 * (i + 1))
+      → FourParts (λ j. gatheredFrom s l (j / 16) (at + j % 16)) 16 (set (set (set (set out i a) (16 + i) b) (32 + i) c) (48 + i) d) (i + 1)
   words-step l at i a b c d S h ea eb ec ed =
-      row-step _ i a b c d S h (ea ∙ word 0 i (omega arith)) (eb ∙ word 1 (16 + i) (omega arith)) (ec ∙ word 2 (32 + i) (omega arith))
+      parts-step _ S h (refl, refl, refl) (ea ∙ word 0 i (omega arith)) (eb ∙ word 1 (16 + i) (omega arith)) (ec ∙ word 2 (32 + i) (omega arith))
       (ed ∙ word 3 (48 + i) (omega arith))
     where
       word : (q j : ℕ) → j ≡ 16 * q + i → gatheredFrom s l q (at + i) ≡ gatheredFrom s l (j / 16) (at + j % 16)

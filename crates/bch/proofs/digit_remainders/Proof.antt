@@ -1,4 +1,5 @@
 -- `bch::digit_remainders` meets its contract: the remainders before place i of each fourth part stand. Assumes nothing.
+use mathlib.Core.Path.{refl}
 use mathlib.Core.List.{List}
 use Prim.Native.Nat.{ℕ, _-_}
 use native.Mathlib.Omega.{arith}
@@ -56,4 +57,4 @@ digit-remainders-spec =
     (λ c. omega arith)
     loop-again
     (λ c. omega arith)
-    (λ c. parts-done _ (c .before .loop .inv) (omega arith)))
+    (λ c. parts-done _ (c .before .loop .inv) (omega arith) refl))

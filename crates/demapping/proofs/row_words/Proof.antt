@@ -1,14 +1,15 @@
 -- `demapping::row_words` meets its contract: the bytes before byte i of each word are there. Assumes nothing.
-use Prim.Native.Nat.{_+_, _*_, _-_, _/_, _%_}
+use Prim.Native.Nat.{_+_, _-_, _/_, _%_}
 use native.Mathlib.Omega.{arith}
 use lib.ListN.{length-set}
 use Rattle.demapping.specs.private.Gathering.{gatheredFrom}
-use Rattle.demapping.proofs.Gathering.{Storing, row-start, row-done, words-step}
+use Rattle.bits.proofs.Parts.{FourParts, parts-start, parts-done}
+use Rattle.demapping.proofs.Gathering.{words-step}
 use Rattle.demapping.proofs.row_words.Statement.{statement}
 use Rattle.demapping.proofs.row_words.Tie as tie
 
 abbrev Inv-loop : tie.InvT-loop
-Inv-loop s at l out₀ i₀ out i = Storing (λ i. gatheredFrom s l (i / 16) (at + i % 16)) out (4 * i)
+Inv-loop s at l out₀ i₀ out i = FourParts (λ i. gatheredFrom s l (i / 16) (at + i % 16)) 16 out i
 
 abbrev μ-loop : tie.MeasureT-loop
 μ-loop s at l out₀ i₀ out i = 16 - i
@@ -28,7 +29,7 @@ row-words-spec =
     (tie.spec
     Inv-loop
     μ-loop
-    (λ c. row-start _ (omega arith))
+    (λ c. parts-start _ (omega arith))
     (λ c. omega arith)
     (λ c. omega arith)
     (λ c. omega arith)
@@ -52,4 +53,4 @@ row-words-spec =
     (λ c. omega arith)
     loop-again
     (λ c. omega arith)
-    (λ c. row-done _ (c .before .loop .inv) (omega arith) (omega arith)))
+    (λ c. parts-done _ (c .before .loop .inv) (omega arith) (omega arith)))

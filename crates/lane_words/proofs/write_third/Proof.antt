@@ -34,7 +34,8 @@ returns c =
     let joined = at .before in
     let words = joined .before .before .before .before .args .words .now in
     begun-done
-    (begun-put 6 47 55 (lanes-bytes words) (joined .join-third .ensures) (lit< tt) refl (omega arith) refl (at .loop .inv .1) (last .put2 .ensures .room (omega arith)))
+    (begun-put 6 47 55 (lanes-bytes words) (joined .join-third .ensures) (lit< tt) refl (omega arith) refl (at .loop .inv .1)
+    (last .put2 .ensures .room (omega arith)))
     (omega arith)
 
 pub write-third-spec : {M : Type 1} → statement M

@@ -5,4 +5,6 @@ use Rattle.lanes.proofs.depth.Statement.{statement}
 use Rattle.lanes.proofs.depth.Tie as tie
 
 pub depth-spec : {M : Type 1} → statement M
-depth-spec = tie.close (tie.spec (λ c. search needs) (λ c. rw (c .if1 .taken) (omega arith)) (λ c. search needs) (λ c. search needs) (λ c. rw (c .if1 .left) (omega arith)))
+depth-spec =
+    tie.close
+    (tie.spec (λ c. search needs) (λ c. rw (c .if1 .taken) (omega arith)) (λ c. search needs) (λ c. search needs) (λ c. rw (c .if1 .left) (omega arith)))

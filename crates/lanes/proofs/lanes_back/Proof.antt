@@ -21,8 +21,8 @@ returns c =
     let start = copy .before .before .before .before .before in
     let a = start .args in
     let o = out .lanes-out .ensures in
-    deinterleave-law (a .exchanged) (a .lanes .now) (a .store .now) _ (omega arith) (put .put-behind .ensures) (o .1) (a .out .now) (omega arith) (start .pre .1)
-    (copy .copy .ensures) (o .0) (kept .lanes-kept .ensures) (permute .permute .ensures)
+    deinterleave-law (a .exchanged) (a .lanes .now) (a .store .now) _ (omega arith) (put .put-behind .ensures) (o .1) (a .out .now) (omega arith)
+    (start .pre .1) (copy .copy .ensures) (o .0) (kept .lanes-kept .ensures) (permute .permute .ensures)
 
 pub lanes-back-spec : {M : Type 1} → statement M
 lanes-back-spec =

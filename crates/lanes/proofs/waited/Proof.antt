@@ -6,4 +6,8 @@ use Rattle.lanes.proofs.waited.Statement.{statement}
 use Rattle.lanes.proofs.waited.Tie as tie
 
 pub waited-spec : {M : Type 1} → statement M
-waited-spec = tie.close (tie.spec (λ c. rw (lt-ltb _ 11 (c .if1 .taken)) (refl, omega arith, omega arith)) (λ c. rw (le-ltb _ 11 (c .if1 .left)) (refl, omega arith, omega arith)))
+waited-spec =
+    tie.close
+    (tie.spec
+    (λ c. rw (lt-ltb _ 11 (c .if1 .taken)) (refl, omega arith, omega arith))
+    (λ c. rw (le-ltb _ 11 (c .if1 .left)) (refl, omega arith, omega arith)))
