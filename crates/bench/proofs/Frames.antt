@@ -8,7 +8,7 @@ use native.Mathlib.Omega.{arith}
 use lib.ListN.{length}
 use Rattle.pilots.specs.definitions.Pilots.{locks}
 use Rattle.framing.specs.definitions.Receive.{receivedFlags, ReceivesWords}
-use Rattle.framing.proofs.Calls.{written}
+use Rattle.bits.proofs.Calls.{written}
 use Rattle.framing.proofs.Receiving.{words-lock}
 use Rattle.account.specs.declared.Account.{Account}
 use Rattle.account.specs.declared.Entry.{Entry}

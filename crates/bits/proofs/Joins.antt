@@ -2,7 +2,7 @@
 -- loop that loads a number from bytes.
 -- Assumes nothing.
 use mathlib.Core.Path.{_≡_, refl, sym, ap, ap₂, _∙_}
-use mathlib.Core.Logic.{_≢_}
+use mathlib.Core.Logic.{_≢_, _⊎_, inl, inr}
 use mathlib.Core.List.{List}
 use Prim.Native.Nat.{ℕ, zero, suc, _+_, _-_, _*_, _/_, _%_, _^_, _≤_, _<_, zero-le}
 use native.Mathlib.Nat.{add-comm, mod-lt, lt-of-lt-of-le, not-suc-le-zero, mul-suc, pow-suc}
@@ -16,10 +16,10 @@ use lib.ListN.{length, getD, set, length-set}
 use lib.Seq.{ext-getD, getD-set-same, getD-set-other}
 use borrow.Author.Tests.{lt-ltb, le-ltb}
 use Rattle.bits.specs.definitions.Put.{Put, PutEight}
-use Rattle.bits.specs.definitions.Bits.{value, fieldAt, loadedAt, AllBytes}
+use Rattle.bits.specs.definitions.Bits.{value, bitOf, bitAt, fieldAt, loadedAt, AllBytes}
 use Rattle.bits.specs.private.Bytes.{reversed}
 use Rattle.bits.proofs.Value.{value-cong, value-digit, value-digits}
-use Rattle.bits.proofs.Fields.{bytes-field, byte-field, field-join, field-lt}
+use Rattle.bits.proofs.Fields.{bytes-field, byte-field, field-join, field-lt, field-bit}
 
 module _ (w : ℕ) where
   -- `(a << k) | d`
@@ -118,6 +118,15 @@ pub put-byte : {n v o : ℕ} {d l : List ℕ} → Put n v o d l → (i : ℕ) �
 put-byte {n} {v} {o} {d} {l} P i h =
     sym (value-digit 256 n (λ (k : ℕ). getD l (o + k) 0) (λ k _. P .bytes .byte (o + k)) i h)
     ∙ rw byte-pow (ap (λ (x : ℕ). x / 256 ^ (n - 1 - i) % 256) (bytes-field l (P .bytes) o n ∙ P .is))
+
+-- its bits, and the other bits
+pub put-bit : {n v o : ℕ} {d l : List ℕ} → Put n v o d l → (q : ℕ) → q < 8 * n → bitAt l (8 * o + q) ≡ bitOf (8 * n) v q
+put-bit {n} {v} {o} {d} {l} P q h = sym (field-bit l (8 * o) (8 * n) q h) ∙ ap (λ (x : ℕ). bitOf (8 * n) x q) (P .is)
+
+pub put-kept : {n v o : ℕ} {d l : List ℕ} → Put n v o d l → (i : ℕ) → (i < 8 * o) ⊎ (8 * (o + n) ≤ i) → bitAt l i ≡ bitAt d i
+unfolding bitAt
+put-kept P i (inl h) = ap (λ (x : ℕ). bitOf 8 x (i % 8)) (P .before (i / 8) (omega arith))
+put-kept P i (inr h) = ap (λ (x : ℕ). bitOf 8 x (i % 8)) (P .after (i / 8) (omega arith))
 
 -- ---- a number's bytes in the other order
 

@@ -10,6 +10,7 @@ pub mod Value
 pub mod Fields
 pub mod Joins
 pub mod Cases
+pub mod Calls
 pub mod Count
 pub mod Weight
 pub mod Fixes

@@ -3,11 +3,12 @@
 use mathlib.Core.Path.{_≡_, refl, sym, ap, ap₂, _∙_}
 use mathlib.Core.Logic.{_⊎_, inl, inr}
 use mathlib.Core.List.{List, [], _∷_}
-use Prim.Native.Nat.{ℕ, zero, suc, _+_, _*_, _/_, _%_, _^_, _<_}
+use Prim.Native.Nat.{ℕ, zero, suc, _+_, _-_, _*_, _/_, _%_, _^_, _<_}
 use native.Mathlib.Nat.{mod-lt, add-zero, zero-mul, one-mul, pow-suc, not-suc-le-zero}
 use native.Mathlib.Omega.{arith}
 use lib.Dec.{lit<}
 use lib.ListN.{length, getD}
+use lib.Pow.{shr-shr}
 use lib.Bits.{bitXor, differ, xor-zero-l, xor-zero-r, xor-self, xor-shifted}
 use Rattle.bits.proofs.Xor.{bit-cases, xor-half, xor-odd, xor-four, xor-double}
 
@@ -71,6 +72,43 @@ sum-xor (suc k) f a b =
     (ap (λ (x : ℕ). x * f 0) (xor-odd a b) ∙ differ-mul (a % 2) (b % 2) (f 0) (mod-lt a (lit< tt)) (mod-lt b (lit< tt)))
     ∙ xor-four (sumAt k g (a / 2)) (sumAt k g (b / 2)) (a % 2 * f 0) (b % 2 * f 0)
 
+-- it depends on the first k terms alone
+pub sum-cong : (k : ℕ) (f g : ℕ → ℕ) (b : ℕ) → ((i : ℕ) → i < k → f i ≡ g i) → sumAt k f b ≡ sumAt k g b
+unfolding sumAt
+sum-cong zero f g b h = refl
+sum-cong (suc k) f g b h =
+    ap₂ (λ (x y : ℕ). bitXor x (b % 2 * y)) (sum-cong k (λ i. f (suc i)) (λ i. g (suc i)) (b / 2) (λ i l. h (suc i) (omega arith))) (h 0 (omega arith))
+
+-- no terms, none of them, and one of them
+pub sum-empty : (f : ℕ → ℕ) (b : ℕ) → sumAt 0 f b ≡ 0
+unfolding sumAt
+sum-empty f b = refl
+
+pub sum-none : (k : ℕ) (f : ℕ → ℕ) → sumAt k f 0 ≡ 0
+unfolding sumAt
+sum-none zero f = refl
+sum-none (suc k) f = ap₂ bitXor (sum-none k (λ i. f (suc i))) (zero-mul (f 0))
+
+pub sum-one : (k : ℕ) (f : ℕ → ℕ) (i : ℕ) → i < k → sumAt k f (2 ^ i) ≡ f i
+unfolding sumAt
+sum-one zero f i h = absurd (omega arith)
+sum-one (suc k) f zero h = ap₂ bitXor (sum-none k (λ i. f (suc i))) (one-mul (f 0))
+sum-one (suc k) f (suc i) h =
+    let e : 2 ^ suc i / 2 ≡ 2 ^ i = omega (arith, pow-suc 2 i) in
+    let o : 2 ^ suc i % 2 ≡ 0 = omega (arith, pow-suc 2 i) in
+    ap₂ bitXor (ap (sumAt k (λ j. f (suc j))) e ∙ sum-one k (λ j. f (suc j)) i (omega arith)) (ap (λ (x : ℕ). x * f 0) o ∙ zero-mul (f 0)) ∙ xor-zero-r (f (suc i))
+
+-- what is left of a sum from term i on: term i, and what is left behind it
+pub sum-rest : (k : ℕ) (f : ℕ → ℕ) (b i : ℕ) → i < k
+    → sumAt (k - i) (λ j. f (i + j)) (b / 2 ^ i) ≡ bitXor (sumAt (k - (i + 1)) (λ j. f (i + 1 + j)) (b / 2 ^ (i + 1))) (b / 2 ^ i % 2 * f i)
+unfolding sumAt
+sum-rest k f b i h =
+    let m : k - i ≡ suc (k - (i + 1)) = omega arith in
+    ap (λ (n : ℕ). sumAt n (λ j. f (i + j)) (b / 2 ^ i)) m
+    ∙ ap₂ (λ (x y : ℕ). bitXor x (b / 2 ^ i % 2 * y))
+    (sum-cong (k - (i + 1)) (λ j. f (i + suc j)) (λ j. f (i + 1 + j)) (b / 2 ^ i / 2) (λ j _. let e : i + suc j ≡ i + 1 + j = omega arith in ap f e)
+    ∙ ap (sumAt (k - (i + 1)) (λ j. f (i + 1 + j))) (shr-shr b i 1)) (ap f (add-zero i))
+
 -- a linear function is the sums of what it is of the powers of two
 pub sums-linear : (k : ℕ) (f F : ℕ → ℕ) → F 0 ≡ 0 → ((x y : ℕ) → x < 2 ^ k → y < 2 ^ k → F (bitXor x y) ≡ bitXor (F x) (F y))
     → ((i : ℕ) → i < k → f i ≡ F (2 ^ i)) → (b : ℕ) → b < 2 ^ k → sumAt k f b ≡ F b
@@ -98,3 +136,9 @@ sums-linear (suc k) f F z L e b h =
     last : (x : ℕ) → (x ≡ 0) ⊎ (x ≡ 1) → x * f 0 ≡ F x
     last x (inl q) = rw q (zero-mul (f 0) ∙ sym z)
     last x (inr q) = rw q (one-mul (f 0) ∙ e 0 (omega arith))
+
+-- so two linear functions that agree there agree
+pub linear-agree : (k : ℕ) (F G : ℕ → ℕ) → F 0 ≡ 0 → G 0 ≡ 0 → ((x y : ℕ) → F (bitXor x y) ≡ bitXor (F x) (F y))
+    → ((x y : ℕ) → G (bitXor x y) ≡ bitXor (G x) (G y)) → ((i : ℕ) → i < k → F (2 ^ i) ≡ G (2 ^ i)) → (b : ℕ) → b < 2 ^ k → F b ≡ G b
+linear-agree k F G z z′ L L′ e b h =
+    sym (sums-linear k (λ i. F (2 ^ i)) F z (λ x y _ _. L x y) (λ i l. refl) b h) ∙ sums-linear k (λ i. F (2 ^ i)) G z′ (λ x y _ _. L′ x y) e b h

@@ -1,14 +1,15 @@
 -- A number by its digits to the base b, the first on top; and by its bits.
 -- Assumes nothing.
-use mathlib.Core.Path.{_≡_, refl, sym, ap, _∙_}
+use mathlib.Core.Path.{_≡_, refl, sym, ap, ap₂, _∙_}
 use Prim.Native.Nat.{ℕ, zero, suc, _+_, _-_, _*_, _/_, _%_, _^_, _≤_, _<_}
 use native.Mathlib.Nat.{le-refl, sub-self, add-zero, add-suc, add-assoc, mul-one, mul-assoc, add-mul, pow-zero, pow-suc, sub-zero, div-eq-of-lt, div-one}
-use native.Mathlib.Nat.{div-div-eq-div-mul, div-add-mod'}
+use native.Mathlib.Nat.{div-div-eq-div-mul, div-add-mod', lt-of-lt-of-le}
 use native.Mathlib.Omega.{arith}
 use lib.Arith.{digits-lt, digits-div, digits-mod}
+use lib.Pow.{pow-mono, shr-shr, shl-shr, field, mod-mod-pow}
 use lib.Bits.{bitAnd, bitXor, differ, and-shr, and-mod, xor-shr}
 use Rattle.bits.specs.definitions.Bits.{value, number, bitOf}
-use Rattle.bits.proofs.Xor.{xor-odd}
+use Rattle.bits.proofs.Xor.{xor-odd, xor-double}
 
 module _ (b : ℕ) where
   -- it depends on the first n digits alone
@@ -72,6 +73,34 @@ pub number-bits : (n a : ℕ) → a < 2 ^ n → number n (bitOf n a) ≡ a
 unfolding bitOf
 number-bits n a h = value-digits 2 n a h
 
+-- the number of the inverted bits
+pub number-inverted : (n : ℕ) (f : ℕ → ℕ) → ((i : ℕ) → i < n → f i < 2) → number n (λ i. 1 - f i) ≡ 2 ^ n - 1 - number n f
+unfolding value
+number-inverted n f h = let e : number n (λ i. 1 - f i) + number n f + 1 ≡ 2 ^ n = sum n h in omega arith
+  where
+    sum : (n : ℕ) → ((i : ℕ) → i < n → f i < 2) → number n (λ i. 1 - f i) + number n f + 1 ≡ 2 ^ n
+    sum zero h = refl
+    sum (suc n) h =
+        let e = sum n (λ i l. h i (omega arith)) in
+        let b : f n < 2 = h n (le-refl (suc n)) in
+        rw (pow-suc 2 n, ← e) (omega arith)
+
+-- the number of bits that are sums
+pub number-xor : (n : ℕ) (f g : ℕ → ℕ) → ((i : ℕ) → f i < 2) → ((i : ℕ) → g i < 2) → number n (λ i. differ (f i) (g i)) ≡ bitXor (number n f) (number n g)
+unfolding value
+number-xor zero f g hf hg = refl
+number-xor (suc n) f g hf hg =
+    ap₂ (λ (x y : ℕ). x * 2 + y) (number-xor n f g hf hg) (xor-bits (f n) (g n) (hf n) (hg n)) ∙ sym (xor-double (number n f) (number n g) (f n) (g n) (hf n) (hg n))
+  where
+    xor-bits : (x y : ℕ) → x < 2 → y < 2 → differ x y ≡ bitXor x y
+    xor-bits zero zero hx hy = refl
+    xor-bits zero (suc zero) hx hy = refl
+    xor-bits (suc zero) zero hx hy = refl
+    xor-bits (suc zero) (suc zero) hx hy = refl
+    xor-bits zero (suc (suc y)) hx hy = absurd (omega arith)
+    xor-bits (suc zero) (suc (suc y)) hx hy = absurd (omega arith)
+    xor-bits (suc (suc x)) y hx hy = absurd (omega arith)
+
 -- numbers with equal bits are equal
 pub bit-ext : (n a b : ℕ) → a < 2 ^ n → b < 2 ^ n → ((i : ℕ) → i < n → bitOf n a i ≡ bitOf n b i) → a ≡ b
 bit-ext n a b ha hb h = sym (number-bits n a ha) ∙ value-cong 2 n (bitOf n a) (bitOf n b) h ∙ number-bits n b hb
@@ -83,6 +112,44 @@ bit-xor n a b i = let k = n - 1 - i in ap (λ (x : ℕ). x % 2) (xor-shr a b k) 
 pub bit-and : (n a b i : ℕ) → bitOf n (bitAnd a b) i ≡ bitAnd (bitOf n a i) (bitOf n b i)
 unfolding bitOf
 bit-and n a b i = let k = n - 1 - i in ap (λ (x : ℕ). x % 2) (and-shr a b k) ∙ and-mod (a / 2 ^ k) (b / 2 ^ k) 1
+
+-- the bits of `a << k` and of `a >> k`
+pub bit-shl : (n a k q : ℕ) → q + k < n → bitOf n (a * 2 ^ k % 2 ^ n) q ≡ bitOf n a (q + k)
+unfolding bitOf
+bit-shl n a k q h =
+    let m = n - 1 - q in
+    let r = n - 1 - (q + k) in
+    let e : n ≡ q + 1 + m = omega arith in
+    let f : m ≡ k + r = omega arith in
+    ap (λ (x : ℕ). x % 2) (ap (λ (i : ℕ). a * 2 ^ k % 2 ^ i / 2 ^ m) e ∙ field (a * 2 ^ k) (q + 1) m) ∙ mod-mod-pow (a * 2 ^ k / 2 ^ m) q 1
+    ∙ ap (λ (x : ℕ). x % 2) (ap (λ (i : ℕ). a * 2 ^ k / 2 ^ i) f ∙ sym (shr-shr (a * 2 ^ k) k r) ∙ ap (λ (x : ℕ). x / 2 ^ r) (shl-shr a k))
+
+pub bit-shr : (n a k q : ℕ) → k ≤ q → q < n → bitOf n (a / 2 ^ k) q ≡ bitOf n a (q - k)
+unfolding bitOf
+bit-shr n a k q l h =
+    let e : k + (n - 1 - q) ≡ n - 1 - (q - k) = omega arith in
+    ap (λ (x : ℕ). x % 2) (shr-shr a k (n - 1 - q) ∙ ap (λ (i : ℕ). a / 2 ^ i) e)
+
+pub bit-shr-none : (n a k q : ℕ) → a < 2 ^ n → q < k → bitOf n (a / 2 ^ k) q ≡ 0
+unfolding bitOf
+bit-shr-none n a k q h l =
+    let e : n ≤ k + (n - 1 - q) = omega arith in
+    ap (λ (x : ℕ). x % 2) (shr-shr a k (n - 1 - q) ∙ div-eq-of-lt (lt-of-lt-of-le h (pow-mono e)))
+
+-- the upper n, and the lower m, of n + m bits
+pub bit-top : (n m a q : ℕ) → q < n → bitOf n (a / 2 ^ m) q ≡ bitOf (n + m) a q
+unfolding bitOf
+bit-top n m a q h =
+    let e : m + (n - 1 - q) ≡ n + m - 1 - q = omega arith in
+    ap (λ (x : ℕ). x % 2) (shr-shr a m (n - 1 - q) ∙ ap (λ (i : ℕ). a / 2 ^ i) e)
+
+pub bit-low : (n m a q : ℕ) → q < m → bitOf m (a % 2 ^ m) q ≡ bitOf (n + m) a (n + q)
+unfolding bitOf
+bit-low n m a q h =
+    let k = m - 1 - q in
+    let e : m ≡ q + 1 + k = omega arith in
+    let f : k ≡ n + m - 1 - (n + q) = omega arith in
+    ap (λ (x : ℕ). x % 2) (ap (λ (i : ℕ). a % 2 ^ i / 2 ^ k) e ∙ field a (q + 1) k) ∙ mod-mod-pow (a / 2 ^ k) q 1 ∙ ap (λ (i : ℕ). a / 2 ^ i % 2) f
 
 pub differ-mod : (x y : ℕ) → x < 2 → y < 2 → differ x y ≡ (x + y) % 2
 differ-mod zero y hx hy = omega arith

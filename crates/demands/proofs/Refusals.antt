@@ -15,7 +15,7 @@ use Rattle.bits.specs.definitions.Bits.{count}
 use Rattle.bits.proofs.Count.{count-cong}
 use Rattle.pilots.specs.definitions.Table5.{pilots}
 use Rattle.pilots.specs.definitions.Pilots.{met, wrongPilots, locks}
-use Rattle.framing.specs.definitions.Call.{after}
+use Rattle.bits.specs.definitions.Call.{after}
 use Rattle.framing.proofs.Sending
 use Rattle.framing.proofs.Receiving
 use Rattle.account.specs.declared.Account.{Account}

@@ -16,7 +16,7 @@ use Rattle.lanes.specs.private.Stream.{deinterleaved}
 use Rattle.lanes.proofs.Return.{deinterleaved-cong, deinterleaved-zip}
 use Rattle.symbols.specs.definitions.Frame.{arrived}
 use Rattle.pilots.specs.definitions.Table5.{pilots}
-use Rattle.framing.specs.definitions.Call.{unless, after}
+use Rattle.bits.specs.definitions.Call.{unless, after}
 use Rattle.framing.specs.definitions.Send.{sentFrame, sendNumber}
 use Rattle.framing.specs.definitions.Receive.{broughtLanes, receivedLanes, receivedStore, receivedFlags, receiveNumber}
 use Rattle.framing.specs.definitions.Stream.{Sent, Received}

@@ -5,5 +5,6 @@ pub mod Stores
 pub mod Trial
 pub mod Tallies
 pub mod ReedSolomon
+pub mod Traffic
 pub mod Verdict
 pub mod Host

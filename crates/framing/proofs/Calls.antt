@@ -1,36 +1,8 @@
--- Laws of every call: a test that passed or failed, and the buffers that a number leaves.
+-- The exchanged places of the base.
 -- Assumes nothing.
-use mathlib.Core.Path.{_≡_, refl, sym, _∙_}
-use mathlib.Core.List.{List}
-use Prim.Native.Nat.{ℕ, suc}
-use native.Mathlib.Decide.{ℕ-discrete}
-use native.Mathlib.Omega.{arith}
-use lib.ListN.{length}
-use borrow.Author.Tests.{eq-eqb, ne-eqb}
+use mathlib.Core.Path.{refl}
 use Rattle.lanes.specs.definitions.Permutation.{named}
-use Rattle.framing.specs.definitions.Call.{unless, after}
 use Rattle.framing.specs.statements.Call.{BasePlaces}
-
-pub passed : (n : ℕ) (s : List ℕ) (r t : ℕ) → length s ≡ n → unless n s r t ≡ t
-passed n s r t e = rw (eq-eqb (length s) n e) refl
-
-pub failed : (n : ℕ) (s : List ℕ) (r t : ℕ) → (length s ≡ n → ⊥) → unless n s r t ≡ r
-failed n s r t e = rw (ne-eqb (length s) n e) refl
-
--- an answer of 0 says that the test passed
-pub passes : (n : ℕ) (s : List ℕ) (k t : ℕ) → unless n s (suc k) t ≡ 0 → (length s ≡ n) × (t ≡ 0)
-passes n s k t e = go (ℕ-discrete (length s) n)
-  where
-    go : Dec (length s ≡ n) → (length s ≡ n) × (t ≡ 0)
-    go (yes h) = (h, sym (passed n s (suc k) t h) ∙ e)
-    go (no h) = let f : suc k ≡ 0 = sym (failed n s (suc k) t h) ∙ e in absurd (omega arith)
-
--- a refused call leaves what was there, a call that was done what is new
-pub left : (r k : ℕ) (new old : List ℕ) → r ≡ suc k → after r new old ≡ old
-left r k new old e = rw (ne-eqb r 0 (λ z. omega arith)) refl
-
-pub written : (r : ℕ) (new old : List ℕ) → r ≡ 0 → after r new old ≡ new
-written r new old e = rw e refl
 
 pub base-places : BasePlaces
 unfolding named

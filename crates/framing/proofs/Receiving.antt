@@ -15,10 +15,10 @@ use Rattle.lanes.proofs.Bytewise.{frame-bytes, permuted-lt, rows-out-lt, lanes-
 use Rattle.decoder.specs.definitions.Word.{flagsOf}
 use Rattle.pilots.specs.definitions.Pilots.{locks}
 use Rattle.lane_words.specs.definitions.LaneWords.{wordLanes}
-use Rattle.framing.specs.definitions.Call.{unless, after}
+use Rattle.bits.specs.definitions.Call.{unless, after}
 use Rattle.framing.specs.definitions.Receive.{receivedWords, broughtLanes, receivedLanes, receivedStore, receivedFlags, wordsNumber, ReceivesWords}
 use Rattle.framing.specs.definitions.Receive.{receiveNumber, Receives}
-use Rattle.framing.proofs.Calls.{passed, failed, passes, left, written}
+use Rattle.bits.proofs.Calls.{passed, failed, passes, left, written}
 
 -- ---- lengths
 

@@ -10,7 +10,7 @@ use Rattle.lanes.specs.definitions.Permutation.{Places}
 use Rattle.lanes.specs.definitions.Interleaver.{interleavedStore, storeNext}
 use Rattle.symbols.specs.definitions.Frame.{frameOf}
 use Rattle.framing.specs.definitions.Send.{sentFrame, sendNumber, Sends}
-use Rattle.framing.proofs.Calls.{passed, failed, left, written}
+use Rattle.bits.proofs.Calls.{passed, failed, left, written}
 
 -- ---- lengths
 

@@ -9,7 +9,7 @@ use lib.ListN.{length}
 use Rattle.bch.specs.definitions.Code.{distance}
 use Rattle.lanes.specs.definitions.Permutation.{Places}
 use Rattle.symbols.specs.definitions.Frame.{arrived}
-use Rattle.framing.specs.definitions.Call.{unless}
+use Rattle.bits.specs.definitions.Call.{unless}
 use Rattle.demands.specs.definitions.Trial.{hit, Trial, flipsIn, hitPilots}
 
 -- by so many flips a word is hit as it differs, when it arrives, from the word sent

@@ -1,20 +1,7 @@
--- What every call has in common (01, refusal list): lengths are tested lowest number first, and a refused call changes nothing.
+-- What every call of sending and receiving has in common: the exchanged places.
 -- Assumes nothing.
-use mathlib.Core.Bool.{cond}
-use mathlib.Core.List.{List}
-use Prim.Native.Nat.{ℕ}
-use lib.Dec.{eqb}
-use lib.ListN.{length}
 use Rattle.lanes.specs.definitions.Permutation.{Places, named}
 
 -- the exchanged places of the base, 2 and 3 (01, permutation: house)
 abbrev pub base : Places
 base = named 12
-
--- the number of a wrong length, or what comes after
-abbrev pub unless : ℕ → List ℕ → ℕ → ℕ → ℕ
-unless size s refusal then = cond (eqb (length s) size) then refusal
-
--- what stands in a buffer after the call: the new content where it was done, else what was there
-abbrev pub after : ℕ → List ℕ → List ℕ → List ℕ
-after r new old = cond (eqb r 0) new old

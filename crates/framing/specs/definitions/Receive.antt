@@ -11,7 +11,7 @@ use Rattle.lane_words.specs.definitions.LaneWords.{wordLanes}
 use Rattle.decoder.specs.definitions.Word.{mendedFrame, flagsOf}
 use Rattle.symbols.specs.definitions.Frame.{wordsOf}
 use Rattle.pilots.specs.definitions.Pilots.{locks}
-use Rattle.framing.specs.definitions.Call.{unless, after}
+use Rattle.bits.specs.definitions.Call.{unless, after}
 
 -- the words that a frame brings: what each of them decodes to
 abbrev pub receivedWords : List ℕ → List ℕ

@@ -8,7 +8,7 @@ use Rattle.lanes.specs.definitions.Interleaver.{interleavedFrame, interleavedSt
 use Rattle.lane_words.specs.definitions.LaneWords.{laneWords}
 use Rattle.bch.specs.definitions.Word.{codedFrame}
 use Rattle.symbols.specs.definitions.Frame.{frameOf}
-use Rattle.framing.specs.definitions.Call.{unless, after}
+use Rattle.bits.specs.definitions.Call.{unless, after}
 
 -- the frame sent: the lanes permuted and interleaved, their words with parity, shuffled, mapped and set among the pilots
 unfoldable pub sentFrame : Places → List ℕ → List ℕ → List ℕ

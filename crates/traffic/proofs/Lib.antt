@@ -1,0 +1,14 @@
+pub mod Register
+pub mod Signal
+pub mod Jumping
+pub mod Windows
+pub mod Stream
+pub mod Turning
+pub mod Putting
+pub mod Placing
+pub mod Frames
+pub mod Refusals
+pub mod Figures
+pub mod Counting
+pub mod Counts
+pub mod Empty

@@ -1,0 +1,4 @@
+pub mod Register
+pub mod Traffic
+pub mod Checker
+pub mod Figures

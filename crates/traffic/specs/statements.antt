@@ -1,0 +1,5 @@
+pub mod Register
+pub mod Traffic
+pub mod Checker
+pub mod Refusals
+pub mod Figures
