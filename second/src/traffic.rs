@@ -43,7 +43,7 @@ pub const fn sent(state: u32) -> bool {
 fn sum(of_bits: &[u32; STATE_BITS], state: u32) -> u32 {
     let taken = of_bits.iter().enumerate();
     taken.fold(0, |sum, (place, of_bit)| {
-        sum ^ of_bit * (state >> place & 1)
+        sum ^ (of_bit * (state >> place & 1))
     })
 }
 
