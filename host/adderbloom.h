@@ -211,6 +211,21 @@ size_t lr800_examine(const uint8_t *capture, size_t capture_length, uint8_t *tex
 /* Its verdict: LR800_NOT_MEASURED, LR800_PASS or LR800_FAIL. */
 uint32_t lr800_examine_verdict(const uint8_t *capture, size_t capture_length);
 
+/* ---- Test traffic ---- */
+
+/* the state after so many bits from all ones; any number of bits */
+uint32_t lr800_traffic_state(uint64_t bits);
+
+/* the lanes of frame `frame`, directly. 0, or 3 where output is not 5,280 bytes */
+uint32_t lr800_traffic_frame(uint32_t frame, uint8_t *output, size_t output_length);
+
+/* a frame from a kept state on; state becomes the state after its 42,240 bits. 0, or 3; refused: state and output unchanged */
+uint32_t lr800_traffic_next(uint32_t *state, uint8_t *output, size_t output_length);
+
+/* counts the wrong bits of recovered frame `frame` in each lane: wrong[p] is set to the number of compared bits of lane p that differ from what was sent.
+ * 0; 1 where lanes is not 5,280 bytes, 3 where wrong is not 32 counts; 1 before 3; refused: nothing changes */
+uint32_t lr800_traffic_check(uint32_t frame, const uint8_t *lanes, size_t lanes_length, uint32_t *wrong, size_t wrong_length);
+
 /* the structs are laid out as in the archive, or this does not compile */
 typedef char lr800_account_has_56_bytes[sizeof(lr800_account) == 56 ? 1 : -1];
 typedef char lr800_record_has_40_bytes[sizeof(lr800_record) == 40 ? 1 : -1];

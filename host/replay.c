@@ -1,9 +1,10 @@
 /* Makes the calls that standard input tells and compares every answer and every byte with what it says they must be.
  * A record begins with a byte, the number of the archive's function in the order of adderbloom.h, lr800_send being 0. Its arguments follow in their order,
- * then the answer, then all that the call may write as it must be after it: accounts, runs and buffers in the order of the arguments. Numbers have four or
- * eight bytes, highest first, a size_t eight; accounts, runs and records are their fields; a buffer is its length, four bytes, and its bytes, but after the
- * call only its bytes.
- * Guard bytes stand around every buffer, account and run; a buffer may begin at any address, and one of no bytes is lent as a null pointer. */
+ * then the answer, then all that the call may write as it must be after it: accounts, runs, states and buffers in the order of the arguments. Numbers have
+ * four or eight bytes, highest first, a size_t eight; accounts, runs and records are their fields; a buffer is its length, four bytes, and its bytes, but
+ * after the call only its bytes; a buffer of counts likewise, its length the number of counts, and each count four bytes.
+ * Guard bytes stand around every buffer, account, run and state; a buffer of bytes may begin at any address, one of counts at any that is aligned for them,
+ * and one of none is lent as a null pointer. */
 #include "adderbloom.h"
 #include <stdio.h>
 #include <stdlib.h>
@@ -16,15 +17,17 @@
 enum { GUARD_BYTE = 0xA5 };
 
 enum { SEND, RECEIVE, ACCOUNT_OPEN, ACCOUNT_ENTER, ACCOUNT_LOSE, VERDICT, READ, WANTED, RUN_OPEN, RUN_STEP, RUN_STOP, RUN_VERDICT, RUN_REPORT, EXAMINE,
-       EXAMINE_VERDICT, FUNCTIONS, READ_KIND = FUNCTIONS, STEP_PHASE, TALLIES };
+       EXAMINE_VERDICT, TRAFFIC_STATE, TRAFFIC_FRAME, TRAFFIC_NEXT, TRAFFIC_CHECK, FUNCTIONS, READ_KIND = FUNCTIONS, STEP_PHASE, WRONG_BITS, TALLIES };
 
 /* how often each number occurred that the header lists; of a run's reports, none, the shortest and the longest; of captures', none, the shortest and that of no
- * bytes */
+ * bytes; of states, that of no bits and that of one; of the wrong bits of a lane, none, one, and all that are compared, of the second frame and of a later
+ * one */
 enum { MOST_NUMBERS = 8 };
 typedef struct {
     const char *name;
     size_t count;
     uint64_t numbers[MOST_NUMBERS];
+    int open; /* others than these are lawful too */
     unsigned long seen[MOST_NUMBERS], others;
 } tally;
 
@@ -43,9 +46,14 @@ static tally tallies[TALLIES] = {
     [STEP_PHASE] = {.name = "lr800_run_step left phase", .count = 3, .numbers = {LR800_UNORDERED, LR800_GOING, LR800_STOPPED}},
     [RUN_STOP] = {.name = "lr800_run_stop left phase", .count = 1, .numbers = {LR800_STOPPED}},
     [RUN_VERDICT] = {.name = "lr800_run_verdict answered", .count = 3, .numbers = {LR800_NOT_MEASURED, LR800_PASS, LR800_FAIL}},
-    [RUN_REPORT] = {.name = "lr800_run_report answered", .count = 3, .numbers = {0, 74, 203}},
-    [EXAMINE] = {.name = "lr800_examine answered", .count = 3, .numbers = {0, 74, 80}},
+    [RUN_REPORT] = {.name = "lr800_run_report answered", .count = 3, .numbers = {0, 74, 203}, .open = 1},
+    [EXAMINE] = {.name = "lr800_examine answered", .count = 3, .numbers = {0, 74, 80}, .open = 1},
     [EXAMINE_VERDICT] = {.name = "lr800_examine_verdict answered", .count = 3, .numbers = {LR800_NOT_MEASURED, LR800_PASS, LR800_FAIL}},
+    [TRAFFIC_STATE] = {.name = "lr800_traffic_state answered", .count = 2, .numbers = {0x7FFFFFFF, 0x7FFFFFFE}, .open = 1},
+    [TRAFFIC_FRAME] = {.name = "lr800_traffic_frame answered", .count = 2, .numbers = {0, 3}},
+    [TRAFFIC_NEXT] = {.name = "lr800_traffic_next answered", .count = 2, .numbers = {0, 3}},
+    [TRAFFIC_CHECK] = {.name = "lr800_traffic_check answered", .count = 3, .numbers = {0, 1, 3}},
+    [WRONG_BITS] = {.name = "lr800_traffic_check counted in a lane", .count = 4, .numbers = {0, 1, 1200, 1320}, .open = 1},
 };
 
 static unsigned long calls, in_runs;
@@ -152,6 +160,39 @@ static void compare(buffer b, const char *function, const char *what) {
     free(b.right);
 }
 
+/* counts as they are lent, and as they must be after the call */
+typedef struct {
+    guarded lent;
+    size_t length;
+    uint32_t *right;
+} counts;
+
+static uint32_t *lent_counts(counts c) {
+    return c.length ? (uint32_t *)(void *)c.lent.bytes : NULL;
+}
+
+static counts take_counts(void) {
+    size_t length = take32(), size = length * sizeof(uint32_t);
+    counts c = {guard(size, calls % 2 * sizeof(uint32_t)), length, malloc(size + 1)};
+    if (!c.right) stop("replay", "has no memory");
+    for (size_t i = 0; i < length; i++) c.right[i] = lent_counts(c)[i] = take32();
+    return c;
+}
+
+static void take_counts_after(counts c) {
+    for (size_t i = 0; i < c.length; i++) c.right[i] = take32();
+}
+
+static void compare_counts(counts c, const char *function) {
+    for (size_t i = 0; i < c.length; i++)
+        if (lent_counts(c)[i] != c.right[i]) {
+            fprintf(stderr, "replay: %lu, not %lu, at %zu\n", (unsigned long)lent_counts(c)[i], (unsigned long)c.right[i], i);
+            stop(function, "left other counts");
+        }
+    release(c.lent, function);
+    free(c.right);
+}
+
 static void compare_accounts(const lr800_account *a, const lr800_account *b, const char *function) {
     if (a->expected != b->expected) stop(function, "left another expected number");
     if (a->accepted != b->accepted) stop(function, "left other accepted frames");
@@ -175,7 +216,7 @@ static void count(int which, uint64_t number) {
             return;
         }
     t->others++;
-    if (which != RUN_REPORT && which != EXAMINE) stop(t->name, "a number that is not in its list");
+    if (!t->open) stop(t->name, "a number that is not in its list");
 }
 
 /* the answer must be the one told, and is counted */
@@ -318,6 +359,49 @@ static void replay_examine_verdict(void) {
     compare(capture, name, "wrote the capture");
 }
 
+static void replay_traffic_state(void) {
+    uint64_t bits = take64();
+    uint32_t right = take32();
+    answered(TRAFFIC_STATE, "lr800_traffic_state", lr800_traffic_state(bits), right);
+}
+
+static void replay_traffic_frame(void) {
+    const char *name = "lr800_traffic_frame";
+    uint32_t frame = take32();
+    buffer output = take_buffer();
+    uint32_t right = take32();
+    take_after(output);
+    answered(TRAFFIC_FRAME, name, lr800_traffic_frame(frame, lent(output), output.lent.length), right);
+    compare(output, name, "left another output");
+}
+
+static void replay_traffic_next(void) {
+    const char *name = "lr800_traffic_next";
+    guarded block = guard(sizeof(uint32_t), 0);
+    uint32_t *state = (uint32_t *)(void *)block.bytes;
+    *state = take32();
+    buffer output = take_buffer();
+    uint32_t right = take32(), after = take32();
+    take_after(output);
+    answered(TRAFFIC_NEXT, name, lr800_traffic_next(state, lent(output), output.lent.length), right);
+    if (*state != after) stop(name, "left another state");
+    compare(output, name, "left another output");
+    release(block, name);
+}
+
+static void replay_traffic_check(void) {
+    const char *name = "lr800_traffic_check";
+    uint32_t frame = take32();
+    buffer lanes = take_buffer();
+    counts wrong = take_counts();
+    uint32_t right = take32();
+    take_counts_after(wrong);
+    answered(TRAFFIC_CHECK, name, lr800_traffic_check(frame, lent(lanes), lanes.lent.length, lent_counts(wrong), wrong.length), right);
+    for (size_t p = 0; right == 0 && p < wrong.length; p++) count(WRONG_BITS, wrong.right[p]);
+    compare(lanes, name, "wrote the lanes");
+    compare_counts(wrong, name);
+}
+
 /* a replay that did not meet every number has shown nothing of those that it left out */
 static void tell(const tally *t) {
     printf("%s", t->name);
@@ -347,6 +431,10 @@ int main(void) {
         case RUN_REPORT: replay_run_report(); break;
         case EXAMINE: replay_examine(); break;
         case EXAMINE_VERDICT: replay_examine_verdict(); break;
+        case TRAFFIC_STATE: replay_traffic_state(); break;
+        case TRAFFIC_FRAME: replay_traffic_frame(); break;
+        case TRAFFIC_NEXT: replay_traffic_next(); break;
+        case TRAFFIC_CHECK: replay_traffic_check(); break;
         default: stop("the record", "is of no function");
         }
         calls++;

@@ -1,13 +1,14 @@
-//! The archive beside this program, in one run: first both make the same calls, then each is timed, whole calls and stage by stage; at last their programs
-//! that examine a capture. `run` links it, and gives it the folder where it finds them.
+//! The archive beside this program, in one run: first both make the same calls, then each is timed, whole calls and stage by stage, test traffic among them;
+//! at last their programs that examine a capture. `run` links it, and gives it the folder where it finds them.
 
 use second::account::{count_flags, enter};
 use second::capture::{length, Answer, Reader, FRAME_RECORD, LENGTH_BYTES};
-use second::lanes::{deinterleave, interleave, lanes_of_words, permute, words, EXCHANGED, LANES_BYTES, STORE_BYTES};
+use second::lanes::{deinterleave, interleave, lanes_of_words, permute, words, EXCHANGED, LANES, LANES_BYTES, STORE_BYTES};
 use second::receive::receive_with;
 use second::run::{examine_verdict, Run};
 use second::send::send;
 use second::symbols::{bit_place, frame, frame_words, wrong_pilots, FRAME_SYMBOLS, NO_LOCK};
+use second::traffic;
 use second::word::{encode_frame, Decoder, FRAME_WORDS};
 use second::xorshift::Xorshift;
 use std::fs::File;
@@ -22,6 +23,7 @@ type Store = [u8; STORE_BYTES];
 type Frame = [u8; FRAME_SYMBOLS];
 type Words = [u64; 2 * FRAME_WORDS];
 type Flags = [u8; FRAME_WORDS];
+type Wrong = [u32; LANES];
 
 extern "C" {
     fn lr800_send(
@@ -32,6 +34,9 @@ extern "C" {
         flags_length: usize,
     ) -> u32;
     fn lr800_examine_verdict(capture: *const u8, capture_length: usize) -> u32;
+    fn lr800_traffic_frame(frame: u32, output: *mut u8, output_length: usize) -> u32;
+    fn lr800_traffic_next(state: &mut u32, output: *mut u8, output_length: usize) -> u32;
+    fn lr800_traffic_check(frame: u32, lanes: *const u8, lanes_length: usize, wrong: *mut u32, wrong_length: usize) -> u32;
     // the stages, as `run` exports them
     fn stage_interleave(lanes: &Lanes, store: &mut Store, out: &mut Lanes);
     fn stage_to_words(lanes: &Lanes, words: &mut Words);
@@ -54,6 +59,18 @@ fn archive_receive(input: &Frame, store: &mut Store, output: &mut Lanes, flags: 
             input.as_ptr(), input.len(), store.as_mut_ptr(), store.len(), output.as_mut_ptr(), output.len(), flags.as_mut_ptr(), flags.len(),
         )
     }
+}
+
+fn archive_frame(number: u32, output: &mut Lanes) -> u32 {
+    unsafe { lr800_traffic_frame(number, output.as_mut_ptr(), output.len()) }
+}
+
+fn archive_next(state: &mut u32, output: &mut Lanes) -> u32 {
+    unsafe { lr800_traffic_next(state, output.as_mut_ptr(), output.len()) }
+}
+
+fn archive_check(number: u32, lanes: &Lanes, wrong: &mut Wrong) -> u32 {
+    unsafe { lr800_traffic_check(number, lanes.as_ptr(), lanes.len(), wrong.as_mut_ptr(), wrong.len()) }
 }
 
 const COMPARED: usize = 300;
@@ -115,9 +132,29 @@ fn compare_receive(random: &mut Xorshift, decoder: &Decoder, frames: &[Frame], f
     }
 }
 
+/// Both go on from any state, make a frame by any number, and check each recovered frame by its own number and by any.
+fn compare_traffic(random: &mut Xorshift, recovered: &[(u32, Lanes)]) {
+    let mut ours = random.next_u64() as u32;
+    let mut theirs = ours;
+    for (number, lanes) in recovered {
+        let (mut a, mut b) = ([0x55; LANES_BYTES], [0xAA; LANES_BYTES]);
+        assert_eq!((traffic::next(&mut ours, &mut a), archive_next(&mut theirs, &mut b)), (0, 0), "test traffic is refused");
+        assert!(a == b && ours == theirs, "lanes or states differ");
+        let any = random.next_u64() as u32 >> random.below(32);
+        (a, b) = ([0x55; LANES_BYTES], [0xAA; LANES_BYTES]);
+        assert_eq!((traffic::frame(any, &mut a), archive_frame(any, &mut b)), (0, 0), "frame {any} is refused");
+        assert!(a == b, "frame {any} differs");
+        for number in [*number, any] {
+            let (mut w, mut x) = ([0x55; LANES], [0xAA; LANES]);
+            assert_eq!((traffic::check(number, lanes, &mut w), archive_check(number, lanes, &mut x)), (0, 0), "checking is refused");
+            assert!(w == x, "wrong bits of frame {number} are counted otherwise");
+        }
+    }
+}
+
 /// Rust and archive in turn, round by round, each over all items in their order and with a store that is fresh at the first; then the best round of each,
-/// the slowest, and the ratio of the best, in microseconds an item.
-fn row<I>(name: &str, items: &[I], mut rust: impl FnMut(&I, &mut Store), mut archive: impl FnMut(&I, &mut Store)) {
+/// the slowest, and the ratio of the best, in microseconds an item. Returns the best.
+fn row<I>(name: &str, items: &[I], mut rust: impl FnMut(&I, &mut Store), mut archive: impl FnMut(&I, &mut Store)) -> [f64; 2] {
     let (mut ours, mut theirs) = ((f64::MAX, 0f64), (f64::MAX, 0f64));
     fn round<I>(items: &[I], best: &mut (f64, f64), call: &mut impl FnMut(&I, &mut Store)) -> Store {
         let mut store = [0; STORE_BYTES];
@@ -132,12 +169,13 @@ fn row<I>(name: &str, items: &[I], mut rust: impl FnMut(&I, &mut Store), mut arc
         assert!(store == round(items, &mut theirs, &mut archive), "stores differ after a timed round");
     }
     print_row(name, ours, theirs);
+    [ours.0, theirs.0]
 }
 
 /// A stage from items to results: compared over all items, then timed.
 fn stage<I, O: PartialEq + Copy>(
     name: &str, items: &[I], blank: O, mut rust: impl FnMut(&I, &mut Store, &mut O), mut archive: impl FnMut(&I, &mut Store, &mut O),
-) {
+) -> [f64; 2] {
     let (mut ours, mut theirs) = ([0; STORE_BYTES], [0; STORE_BYTES]);
     let (mut a, mut b) = (blank, blank);
     for item in items {
@@ -145,7 +183,7 @@ fn stage<I, O: PartialEq + Copy>(
         archive(item, &mut theirs, &mut b);
         assert!(a == b && ours == theirs, "{name}: results or stores differ");
     }
-    row(name, items, |item, store| rust(item, store, black_box(&mut a)), |item, store| archive(item, store, black_box(&mut b)));
+    row(name, items, |item, store| rust(item, store, black_box(&mut a)), |item, store| archive(item, store, black_box(&mut b)))
 }
 
 /// A capture: an order for so many frames, no flagged word allowed, and these frames in their turn, again and again, their numbers rising.
@@ -342,6 +380,50 @@ fn receiving_stages(decoder: &Decoder, kind: &str, frames: &[Frame]) {
     }
 }
 
+/// Test traffic as it comes back from the line, with 0 to 6 flips in every word, each frame with its number.
+fn recovered(random: &mut Xorshift, decoder: &Decoder) -> Vec<(u32, Lanes)> {
+    let mut state = traffic::SEED;
+    let sent = made(&[(); TIMED], |(), _| {
+        let mut lanes = [0; LANES_BYTES];
+        assert_eq!(traffic::next(&mut state, &mut lanes), 0);
+        lanes
+    });
+    let received = made(&frames(random, &sent, |r| r.below(7) as u32), |frame, store| {
+        let mut lanes = [0; LANES_BYTES];
+        assert_eq!(receive_with(decoder, frame, store, &mut lanes, &mut [0; FRAME_WORDS]), 0);
+        lanes
+    });
+    (0..).zip(received).collect()
+}
+
+fn rows_traffic(recovered: &[(u32, Lanes)]) {
+    stage(
+        "a frame of test traffic, going on",
+        &[(); TIMED],
+        (traffic::SEED, [0; LANES_BYTES]),
+        |(), _, o| assert_eq!(traffic::next(&mut o.0, &mut o.1), 0),
+        |(), _, o| assert_eq!(archive_next(&mut o.0, &mut o.1), 0),
+    );
+    let [first, last] = [("frame 0 directly", 0), ("frame 4,294,967,295 directly", u32::MAX)].map(|(name, number)| {
+        stage(
+            name,
+            &[number; TIMED],
+            [0; LANES_BYTES],
+            |i, _, o| assert_eq!(traffic::frame(*i, o), 0),
+            |i, _, o| assert_eq!(archive_frame(*i, o), 0),
+        )
+    });
+    stage(
+        "a recovered frame checked",
+        recovered,
+        [0; LANES],
+        |(number, lanes), _, o| assert_eq!(traffic::check(*number, lanes, o), 0),
+        |(number, lanes), _, o| assert_eq!(archive_check(*number, lanes, o), 0),
+    );
+    let [rust, archive] = [0, 1].map(|side| last[side] / first[side]);
+    println!("frame 4,294,967,295 directly takes {archive:.2} times as long as frame 0 in the archive, {rust:.2} times in the Rust");
+}
+
 fn main() {
     let word = std::env::args().nth(1).expect("the folder of the programs");
     if word == "without-lanes" {
@@ -355,14 +437,17 @@ fn main() {
     let two = frames(&mut random, &inputs, |_| 2);
     let mixed = frames(&mut random, &inputs, |r| r.below(3) as u32);
     let any = frames(&mut random, &inputs[..COMPARED], |r| r.below(7) as u32);
+    let recovered = recovered(&mut random, &decoder);
 
     compare_send(&mut random, &inputs[..COMPARED]);
     compare_receive(&mut random, &decoder, &clean[..COMPARED], Some(0));
     compare_receive(&mut random, &decoder, &two[..COMPARED], Some(2));
     compare_receive(&mut random, &decoder, &mixed[..COMPARED], None);
     compare_receive(&mut random, &decoder, &any, None);
+    compare_traffic(&mut random, &recovered[..COMPARED]);
     println!("{COMPARED} frames sent, and received clean, with two flips in every word, with 0 to 2 at random and with 0 to 6 at random:");
     println!("the same frames, lanes, flags and stores");
+    println!("{COMPARED} frames of test traffic on from any state, by any number and checked as they come back: the same lanes, states and counts");
 
     println!("microseconds a frame: the best and the slowest of {ROUNDS} rounds of {TIMED} frames; the ratio of the best");
     println!("{:36} {:>17} {:>19} {:>8}", "", "Rust", "archive", "ratio");
@@ -392,6 +477,7 @@ fn main() {
     rows_examined(&decoder, "examined clean", &clean);
     rows_examined(&decoder, "examined, two flips in every word", &two);
     rows_examined(&decoder, "examined, 0 to 2 flips at random", &mixed);
+    rows_traffic(&recovered);
 
     println!("a capture file of {CAPTURED} frames as standard input of each side's program, all with the same report, PASS:");
     println!("the best of {CAPTURE_ROUNDS} rounds, its ratio to the Rust's, and the most resident memory");

@@ -9,5 +9,6 @@ pub mod run;
 pub mod send;
 pub mod symbols;
 pub mod tables;
+pub mod traffic;
 pub mod word;
 pub mod xorshift;

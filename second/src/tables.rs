@@ -1,9 +1,11 @@
 //! The tables of the proved code, worked out from their rules: as code, and as lists for the proofs.
+//! Beside them the figures of test traffic that the proofs are held to.
 //!
 //! `files` gives each file whole, with its comments, as it stands below crates/.
 
 use crate::lanes::{BLOCK_BYTES, SYMBOL_BITS};
 use crate::symbols::{PILOTS, PILOT_COUNT};
+use crate::traffic::{sent, state_by_steps, step, SEED};
 use crate::word::{only_bit, parity, remainder, split, PARITY_BITS, WORD_BITS};
 
 /// A table: its names as code and as list, and the rule of its entries.
@@ -185,13 +187,14 @@ static PAIRS: [Pair; 4] = [
 
 /// Every file: its path below crates/, and its text.
 pub fn files() -> impl Iterator<Item = (String, String)> {
-    PAIRS.iter().flat_map(|pair| {
+    let of_tables = PAIRS.iter().flat_map(|pair| {
         let path = |file: &str| format!("{}/{file}", pair.folder);
         [
             (path("src/tables.rt"), as_code(pair)),
             (path(pair.lists.file), as_lists(pair)),
         ]
-    })
+    });
+    of_tables.chain([(TRAFFIC_FILE.to_string(), traffic_figures())])
 }
 
 fn as_code(pair: &Pair) -> String {
@@ -211,10 +214,7 @@ fn as_code(pair: &Pair) -> String {
 
 fn as_lists(pair: &Pair) -> String {
     let lists = &pair.lists;
-    let mut text = commented("--", lists.comment);
-    text += "-- Assumes nothing.\n";
-    text += "use mathlib.Core.List.{List, [], _∷_}\n";
-    text += "use Prim.Native.Nat.{ℕ}\n";
+    let mut text = opened(lists.comment);
     for table in pair.tables {
         let (name, declared) = (table.list, lists.declared);
         let own_name = format!("`{}`", table.name);
@@ -230,6 +230,15 @@ fn as_lists(pair: &Pair) -> String {
     text
 }
 
+/// How a file of lists begins.
+fn opened(comment: &str) -> String {
+    let mut text = commented("--", comment);
+    text += "-- Assumes nothing.\n";
+    text += "use mathlib.Core.List.{List, [], _∷_}\n";
+    text += "use Prim.Native.Nat.{ℕ}\n";
+    text
+}
+
 fn commented(mark: &str, comment: &str) -> String {
     let lines = comment.lines().map(|line| format!("{mark} {line}\n"));
     lines.collect()
@@ -240,6 +249,37 @@ impl Table {
         let entries = (0..self.length).map(self.entry);
         entries.map(|entry| entry.to_string()).collect()
     }
+}
+
+const TRAFFIC_FILE: &str = "traffic/specs/definitions/Figures.antt";
+
+/// The bits and the states of test traffic, from no more than what one step is.
+fn traffic_figures() -> String {
+    let mut text = opened(
+        "Written by the program `tables` of second/: the first 64 bits of test traffic, and the \
+        state after 31, 1,000 and 42,240 bits, each found bit by bit.",
+    );
+    text += "\n-- the first 64 bits as a number, the first on top\n";
+    text += "abbrev pub firstBits : ℕ\n";
+    text += &format!("firstBits = 0x{:016X}\n", first_bits());
+    text += "\n-- a number of bits, and the state after them\n";
+    text += "pub record StateFigure : Type 0 where\n  pub bits : ℕ\n  pub state : ℕ\n";
+    text += "\n-- after 31, 1,000 and 42,240 bits\n";
+    text += "unfoldable pub stateFigures : List StateFigure\nstateFigures =\n    ";
+    for bits in [31, 1_000, 42_240] {
+        let state = state_by_steps(bits);
+        text += &format!("record {{ bits = {bits}; state = 0x{state:08X} }}\n    ∷ ");
+    }
+    text += "[]\n";
+    text
+}
+
+fn first_bits() -> u64 {
+    let mut state = SEED;
+    (0..64).fold(0, |bits, _| {
+        state = step(state);
+        bits << 1 | u64::from(sent(state))
+    })
 }
 
 /// The word whose only bit is bit i; 0 where there is no bit i.
@@ -308,6 +348,7 @@ fn bits_of_places(at: usize) -> u64 {
 mod tests {
     use super::*;
     use crate::lanes::{permute, LANES_BYTES};
+    use crate::traffic::{frame, state_after};
 
     fn entries(name: &str) -> Vec<u64> {
         let mut tables = PAIRS.iter().flat_map(|pair| pair.tables);
@@ -381,5 +422,34 @@ mod tests {
                 assert!(block.iter().map(|&byte| u64::from(byte)).eq(mask.to_vec()));
             }
         }
+    }
+
+    #[test]
+    fn figures_of_traffic_are_its_frames_and_states() {
+        let found: Vec<_> = files().filter(|(path, _)| path == TRAFFIC_FILE).collect();
+        assert_eq!(found.len(), 1);
+        let text = &found[0].1;
+        let after = |mark: &str| -> Vec<u64> {
+            let parts = text.split(mark).skip(1);
+            let digits = parts.map(|part| part.split([' ', ';', '\n']).next().expect("digits"));
+            digits
+                .map(|digits| match digits.strip_prefix("0x") {
+                    Some(hex) => u64::from_str_radix(hex, 16).expect("hex"),
+                    None => digits.parse().expect("a number"),
+                })
+                .collect()
+        };
+        // The first ten bits of lanes 0 to 6, without the last six.
+        let mut lanes = [0; LANES_BYTES];
+        assert_eq!(frame(0, &mut lanes), 0);
+        let symbols = (0..7).map(|p| u16::from_be_bytes([lanes[165 * p], lanes[165 * p + 1]]) >> 6);
+        let bits = symbols.fold(0, |bits, symbol| bits << 10 | u128::from(symbol));
+        assert_eq!(after("firstBits = "), [(bits >> 6) as u64]);
+        let (bits, states) = (after("bits = "), after("state = "));
+        assert_eq!(bits, [31, 1_000, 42_240]);
+        for (bits, state) in bits.into_iter().zip(states) {
+            assert_eq!(u64::from(state_after(bits)), state);
+        }
+        assert!(text.lines().all(|line| line.chars().count() <= 160));
     }
 }

@@ -1,4 +1,4 @@
-//! Writes the tables of the proved code into a folder, as code and as lists, with the paths that they have below crates/.
+//! Writes the tables of the proved code into a folder, as code and as lists, and the figures of test traffic, with the paths that they have below crates/.
 
 use second::tables::files;
 use std::ffi::OsString;

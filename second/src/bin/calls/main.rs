@@ -3,8 +3,8 @@
 //! out. Seeded, so that the same count and seed give the same bytes.
 //!
 //! What is written whatever the count: 01's run figures with every pair and triple of flips, every
-//! refusal and those that can occur together, entries, records, places, runs, reports and whole
-//! captures. Then so many frames of each direction.
+//! refusal and those that can occur together, entries, records, places, runs, reports, whole
+//! captures and test traffic. Then so many frames of each direction.
 
 mod accounts;
 mod examined;
@@ -15,6 +15,7 @@ mod out;
 mod records;
 mod reports;
 mod runs;
+mod traffic;
 mod verdicts;
 
 use out::Calls;
@@ -37,6 +38,7 @@ fn write_calls(count: u64, seed: u64) -> io::Result<()> {
     runs::write(calls, random)?;
     reports::write(calls, random)?;
     examined::write(calls, random)?;
+    traffic::write(calls, random)?;
     frames::write(calls, random, count)?;
     calls.end()
 }

@@ -7,6 +7,7 @@ use second::kept::Kept;
 use second::receive::receive;
 use second::run::{examine, examine_verdict};
 use second::send::send;
+use second::traffic::{check_by_rule, frame_by_rule, next_by_rule, state_after_by_rule};
 use std::io::{self, IsTerminal, Write};
 use std::time::{Duration, Instant};
 
@@ -26,6 +27,10 @@ const RUN_VERDICT: u8 = 11;
 const RUN_REPORT: u8 = 12;
 const EXAMINE: u8 = 13;
 const EXAMINE_VERDICT: u8 = 14;
+const TRAFFIC_STATE: u8 = 15;
+const TRAFFIC_FRAME: u8 = 16;
+const TRAFFIC_NEXT: u8 = 17;
+const TRAFFIC_CHECK: u8 = 18;
 
 pub struct Calls<W: Write> {
     out: W,
@@ -278,5 +283,55 @@ impl<W: Write> Calls<W> {
         let number = examine_verdict(capture);
         self.u32(number)?;
         Ok(number)
+    }
+
+    pub fn traffic_state(&mut self, bits: u64) -> io::Result<u32> {
+        self.begin(TRAFFIC_STATE)?;
+        self.u64(bits)?;
+        let state = state_after_by_rule(bits);
+        self.u32(state)?;
+        Ok(state)
+    }
+
+    pub fn traffic_frame(&mut self, number: u32, output: &mut [u8]) -> io::Result<u32> {
+        self.begin(TRAFFIC_FRAME)?;
+        self.u32(number)?;
+        self.buffer(output)?;
+        let refusal = frame_by_rule(number, output);
+        self.u32(refusal)?;
+        self.out.write_all(output)?;
+        Ok(refusal)
+    }
+
+    pub fn traffic_next(&mut self, state: &mut u32, output: &mut [u8]) -> io::Result<u32> {
+        self.begin(TRAFFIC_NEXT)?;
+        self.u32(*state)?;
+        self.buffer(output)?;
+        let refusal = next_by_rule(state, output);
+        self.u32(refusal)?;
+        self.u32(*state)?;
+        self.out.write_all(output)?;
+        Ok(refusal)
+    }
+
+    pub fn traffic_check(
+        &mut self,
+        number: u32,
+        lanes: &[u8],
+        wrong: &mut [u32],
+    ) -> io::Result<u32> {
+        self.begin(TRAFFIC_CHECK)?;
+        self.u32(number)?;
+        self.buffer(lanes)?;
+        self.u32(wrong.len() as u32)?;
+        for &count in &*wrong {
+            self.u32(count)?;
+        }
+        let refusal = check_by_rule(number, lanes, wrong);
+        self.u32(refusal)?;
+        for &count in &*wrong {
+            self.u32(count)?;
+        }
+        Ok(refusal)
     }
 }
