@@ -40,6 +40,14 @@ use Rattle.adderbloom.proofs.runs.lr800_run_verdict.Kinds as run-verdic
 use Rattle.adderbloom.proofs.runs.lr800_run_verdict.Reads as run-verdict-reads
 use Rattle.adderbloom.proofs.runs.lr800_run_report.Kinds as run-report-kinds
 use Rattle.adderbloom.proofs.runs.lr800_run_report.Reads as run-report-reads
+use Rattle.adderbloom.proofs.test_traffic.lr800_traffic_state.Kinds as traffic-state-kinds
+use Rattle.adderbloom.proofs.test_traffic.lr800_traffic_state.Reads as traffic-state-reads
+use Rattle.adderbloom.proofs.test_traffic.lr800_traffic_frame.Kinds as traffic-frame-kinds
+use Rattle.adderbloom.proofs.test_traffic.lr800_traffic_frame.Reads as traffic-frame-reads
+use Rattle.adderbloom.proofs.test_traffic.lr800_traffic_next.Kinds as traffic-next-kinds
+use Rattle.adderbloom.proofs.test_traffic.lr800_traffic_next.Reads as traffic-next-reads
+use Rattle.adderbloom.proofs.test_traffic.lr800_traffic_check.Kinds as traffic-check-kinds
+use Rattle.adderbloom.proofs.test_traffic.lr800_traffic_check.Reads as traffic-check-reads
 
 -- the number, and the store and the output at exit
 pub send-determined : Fixes 3 send-kinds.ps send-kinds.r send-reads.Post (λ κs s t. (now (s .1 .0) ≡ now (t .1 .0)) × (now (s .1 .1 .0) ≡ now (t .1 .1 .0)))
@@ -71,6 +79,22 @@ examine-determined κs a x y s t p q = (p .0 ∙ sym (q .0), p .1 ∙ sym (q .1)
 
 pub run-report-determined : Fixes 1 run-report-kinds.ps run-report-kinds.r run-report-reads.Post (λ κs s t. now (s .1 .0) ≡ now (t .1 .0))
 run-report-determined κs a x y s t p q = (p .0 ∙ sym (q .0), p .1 ∙ sym (q .1))
+
+pub traffic-state-determined : Fixes 0 traffic-state-kinds.ps traffic-state-kinds.r traffic-state-reads.Post (λ κs s t. Unit)
+traffic-state-determined κs a x y s t p q = (p ∙ sym q, tt)
+
+-- the number, and the output at exit
+pub traffic-frame-determined : Fixes 1 traffic-frame-kinds.ps traffic-frame-kinds.r traffic-frame-reads.Post (λ κs s t. now (s .1 .0) ≡ now (t .1 .0))
+traffic-frame-determined κs a x y s t p q = (p .number ∙ sym (q .number), p .output ∙ sym (q .output))
+
+-- the number, and the state and the output at exit
+pub traffic-next-determined : Fixes 2 traffic-next-kinds.ps traffic-next-kinds.r traffic-next-reads.Post
+    (λ κs s t. (now (s .0) ≡ now (t .0)) × (now (s .1 .0) ≡ now (t .1 .0)))
+traffic-next-determined κs a x y s t p q = (p .number ∙ sym (q .number), (p .state ∙ sym (q .state), p .output ∙ sym (q .output)))
+
+-- the number, and the counts at exit
+pub traffic-check-determined : Fixes 2 traffic-check-kinds.ps traffic-check-kinds.r traffic-check-reads.Post (λ κs s t. now (s .1 .1 .0) ≡ now (t .1 .1 .0))
+traffic-check-determined κs a x y s t p q = (p .number ∙ sym (q .number), p .counts ∙ sym (q .counts))
 
 -- The functions that are lent an account or a run are proved by a walk.
 

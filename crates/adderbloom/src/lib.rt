@@ -3,6 +3,7 @@ mod captures;
 mod entries;
 mod records;
 mod runs;
+mod test_traffic;
 
 ghost use Rattle.framing.specs.definitions.Call.{base};
 ghost use Rattle.framing.specs.definitions.Send.{Sends};

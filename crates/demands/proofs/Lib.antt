@@ -22,4 +22,5 @@ pub mod Reports
 pub mod Host
 pub mod OwnAccount
 pub mod Empty
+pub mod Traffic
 pub mod Theorems

@@ -4,6 +4,11 @@ use Rattle.demands.specs.statements.Demands.{Demands}
 use Rattle.demands.specs.statements.Calls.{Calls}
 use Rattle.decoder.proofs.Theorems.{mends-two, flagged-exactly, smallest-distance}
 use Rattle.account.proofs.Kept.{kept-from-order}
+use Rattle.traffic.proofs.Signal.{prbs31, direct-state}
+use Rattle.traffic.proofs.Frames.{frame-from, one-after-the-other, one-sequence, traffic-exists, top-bit}
+use Rattle.traffic.proofs.Counts.{what-is-compared, counts-exactly}
+use Rattle.traffic.proofs.Refusals.{frame-refusals, next-refusals, check-refusals}
+use Rattle.traffic.proofs.Figures.{traffic-figures}
 use Rattle.framing.proofs.Calls.{base-places}
 use Rattle.framing.proofs.Stream.{block-rule}
 use Rattle.framing.proofs.Figures.{bench-figures}
@@ -26,6 +31,7 @@ use Rattle.demands.proofs.OwnAccount.{own-verdict, told-stopped}
 use Rattle.demands.proofs.Labels.{spans-label}
 use Rattle.demands.proofs.ReedSolomon.{carries-exactly, reed-solomon-bound, four-pairs}
 use Rattle.demands.proofs.Exceeded.{spans-exist, other-places, other-pairs}
+use Rattle.demands.proofs.Traffic.{traffic-returns, traffic-hit, wrong-test, traffic-speaks}
 
 pub demands : Demands
 demands =
@@ -71,6 +77,23 @@ demands =
       pairs = four-pairs;
       elsewhere = other-places;
       otherPairs = other-pairs;
+      prbs31 = prbs31;
+      directState = direct-state;
+      trafficFigures = traffic-figures;
+      frameFrom = frame-from;
+      oneAfterTheOther = one-after-the-other;
+      oneSequence = one-sequence;
+      trafficExists = traffic-exists;
+      topBit = top-bit;
+      compared = what-is-compared;
+      countsExactly = counts-exactly;
+      trafficReturns = traffic-returns;
+      trafficHit = traffic-hit;
+      wrongTest = wrong-test;
+      trafficSpeaks = traffic-speaks;
+      frameRefusals = frame-refusals;
+      nextRefusals = next-refusals;
+      checkRefusals = check-refusals;
     }
 
 pub calls : Calls

@@ -45,13 +45,15 @@ module _ {ex : Places} {n : ℕ} {flips lanes room outs flagBuffers : ℕ → Li
       ∙ flags-hit (t .frames f) (flips f) (code-words f h)
 
   module _ (accepted : Accepted t) where
-    -- then the undamaged frames are not refused either
+    -- then the outputs and the flags had the right lengths
+    pub accepted-lent : (f : ℕ) → f < n → (length (outs f) ≡ 5280) × (length (flagBuffers f) ≡ 384)
+    accepted-lent f h = lent (hit (t .frames f) (flips f)) (t .stores f) (outs f) (flagBuffers f) (sym (t .received .call f h .number) ∙ accepted f h)
+
+    -- and the undamaged frames are not refused either
     pub clean-accepted : (f : ℕ) → f < n → t .cleanNumbers f ≡ 0
     clean-accepted f h =
-        let room = lent (hit (t .frames f) (flips f)) (t .stores f) (outs f) (flagBuffers f) (sym (t .received .call f h .number) ∙ accepted f h) in
         clean-done ex n lanes _ (t .sentNumbers) (t .frames) (t .sentStores) (t .sent) outs flagBuffers (t .cleanNumbers) (t .cleanStores) (t .cleanBack)
-        (t .cleanFlags) (t .undamaged) f h
-        (room .0) (room .1)
+        (t .cleanFlags) (t .undamaged) f h (accepted-lent f h .0) (accepted-lent f h .1)
 
     -- what is left of the flips, as lanes: what they would bring if they were frames
     pub differs-by : (p i : ℕ) → p < 32 → i < 1320 * n

@@ -7,6 +7,7 @@ pub mod Trial
 pub mod OneForAll
 pub mod Tallies
 pub mod ReedSolomon
+pub mod Traffic
 pub mod Verdict
 pub mod Host
 pub mod Demands

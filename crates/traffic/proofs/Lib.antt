@@ -12,3 +12,4 @@ pub mod Figures
 pub mod Counting
 pub mod Counts
 pub mod Empty
+pub mod Determined

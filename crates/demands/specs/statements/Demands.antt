@@ -3,6 +3,11 @@
 -- Assumes nothing.
 use Rattle.decoder.specs.statements.Word.{MendsTwo, FlaggedExactly, SmallestDistance}
 use Rattle.account.specs.statements.Kept.{KeptFromOrder}
+use Rattle.traffic.specs.statements.Register.{Prbs31, DirectState}
+use Rattle.traffic.specs.statements.Traffic.{FrameFrom, OneAfterTheOther, OneSequence, TrafficExists, TopBit}
+use Rattle.traffic.specs.statements.Checker.{Compared, CountsExactly}
+use Rattle.traffic.specs.statements.Refusals.{FrameRefusals, NextRefusals, CheckRefusals}
+use Rattle.traffic.specs.statements.Figures.{TrafficFigures}
 use Rattle.framing.specs.statements.Call.{BasePlaces}
 use Rattle.framing.specs.statements.Stream.{BlockRule}
 use Rattle.framing.specs.statements.Figures.{BenchFigures}
@@ -17,6 +22,7 @@ use Rattle.demands.specs.statements.Tallies.{TalliesAlike, ReportedIsEnt
 use Rattle.demands.specs.statements.Verdict.{PassExactly, FailExactly, NotMeasuredExactly, ProgramSays, MeasuredOnce, ExaminationsExist, ArrivedAlways}
 use Rattle.demands.specs.statements.Verdict.{NeverPass, AllCounted, AlwaysCounted, StepNumbers}
 use Rattle.demands.specs.statements.ReedSolomon.{SpansExist, SpansLabel, CarriesExactly, ReedSolomonBound, FourPairs, OtherPlaces, OtherPairs}
+use Rattle.demands.specs.statements.Traffic.{TrafficReturns, TrafficHit, WrongTest, TrafficSpeaks}
 
 -- the demands over words, streams and captures, sentence by sentence
 pub record Demands : Type 0 where
@@ -71,3 +77,25 @@ pub record Demands : Type 0 where
   pub pairs : FourPairs
   pub elsewhere : OtherPlaces
   pub otherPairs : OtherPairs
+  -- 02, request 01: test traffic is PRBS31, and a state is found directly; the figures of the second program; frames one after the other and asked for directly,
+  -- and that there are such calls; and that a state's top bit is not looked at
+  pub prbs31 : Prbs31
+  pub directState : DirectState
+  pub trafficFigures : TrafficFigures
+  pub frameFrom : FrameFrom
+  pub oneAfterTheOther : OneAfterTheOther
+  pub oneSequence : OneSequence
+  pub trafficExists : TrafficExists
+  pub topBit : TopBit
+  -- 02, request 01: what the checker compares, and what it counts of whatever came back, undamaged, and hit by flips; which bits are wrong; and that test traffic
+  -- speaks for all lanes
+  pub compared : Compared
+  pub countsExactly : CountsExactly
+  pub trafficReturns : TrafficReturns
+  pub trafficHit : TrafficHit
+  pub wrongTest : WrongTest
+  pub trafficSpeaks : TrafficSpeaks
+  -- 02, request 01: what its calls are refused by, number by number
+  pub frameRefusals : FrameRefusals
+  pub nextRefusals : NextRefusals
+  pub checkRefusals : CheckRefusals

@@ -4,9 +4,9 @@ use mathlib.Core.Path.{_≡_}
 use mathlib.Core.Bool.{true}
 use mathlib.Core.Logic.{_↔_}
 use mathlib.Core.List.{List}
-use Prim.Native.Nat.{ℕ, _<_}
+use Prim.Native.Nat.{ℕ, _+_, _*_, _<_}
 use lib.ListN.{length, replicate}
-use Rattle.bits.specs.definitions.Bits.{tabulate}
+use Rattle.bits.specs.definitions.Bits.{tabulate, count}
 use Rattle.lanes.specs.definitions.Permutation.{Places}
 use Rattle.traffic.specs.definitions.Traffic.{Generated}
 use Rattle.traffic.specs.definitions.Checker.{Checks}
@@ -17,28 +17,31 @@ use Rattle.demands.specs.definitions.Traffic.{isWrong, wrongInLane}
 -- test traffic sent over an undamaged line, from fresh states: the checker counts 0 in every lane of every frame
 abbrev pub TrafficReturns : Type 0
 TrafficReturns =
-    (n : ℕ) (made lanes : ℕ → List ℕ) → Generated n made lanes
+    (n : ℕ) (lent lanes : ℕ → List ℕ) → Generated n lent lanes
     → (ex : Places) (sentNumbers numbers : ℕ → ℕ) (back flagBytes : ℕ → List ℕ) → Undamaged ex n lanes sentNumbers numbers back flagBytes
-    → (f : ℕ) → f < n → (w : List ℕ) (r : ℕ) (w′ : List ℕ) → Checks f (back f) w r w′ → length w ≡ 32 → (r ≡ 0) × (w′ ≡ replicate 32 0)
+    → (f : ℕ) → f < n → (c : List ℕ) (r : ℕ) (c′ : List ℕ) → Checks f (back f) c r c′ → length c ≡ 32 → (r ≡ 0) × (c′ ≡ replicate 32 0)
 
--- test traffic hit by flips, no frame refused: the counts are demand 3's wrong bits, lane by lane
+-- test traffic hit by flips, no frame refused: the counts are demand 3's wrong bits behind the fill, lane by lane. Those in the 36 blocks of zeros are skipped,
+-- as the request says
 abbrev pub TrafficHit : Type 0
 TrafficHit =
-    (n : ℕ) (made lanes : ℕ → List ℕ) → Generated n made lanes
+    (n : ℕ) (lent lanes : ℕ → List ℕ) → Generated n lent lanes
     → (ex : Places) (flips room outs flagBuffers : ℕ → List ℕ) (t : Trial ex n flips lanes room outs flagBuffers) → Accepted t
-    → (f : ℕ) → f < n → (w : List ℕ) (r : ℕ) (w′ : List ℕ) → Checks f (t .back f) w r w′ → length w ≡ 32 → (r ≡ 0) × (w′ ≡ tabulate 32 (wrongInLane t f))
+    → (f : ℕ) → f < n → (c : List ℕ) (r : ℕ) (c′ : List ℕ) → Checks f (t .back f) c r c′ → length c ≡ 32 → (r ≡ 0) × (c′ ≡ tabulate 32 (wrongInLane t f))
 
--- which are the wrong bits of demand 3
+-- what is counted so are the wrong bits of demand 3; and from frame 2 on, all of them
 abbrev pub WrongTest : Type 0
 WrongTest =
-    (ex : Places) (n : ℕ) (flips lanes room outs flagBuffers : ℕ → List ℕ) (t : Trial ex n flips lanes room outs flagBuffers) (p i : ℕ)
-    → (isWrong t p i ≡ true) ↔ Wrong t p i
+    (ex : Places) (n : ℕ) (flips lanes room outs flagBuffers : ℕ → List ℕ) (t : Trial ex n flips lanes room outs flagBuffers)
+    → ((p i : ℕ) → (isWrong t p i ≡ true) ↔ Wrong t p i)
+    × ((f p : ℕ) → 1 < f → wrongInLane t f p ≡ count (λ i. isWrong t p (1320 * f + i)) 1320)
 
--- so what is counted of test traffic is what any other lanes suffer from the same flips, call by call with outputs and flags of the same lengths
+-- so what is counted of test traffic is what any other lanes suffer behind the fill from the same flips, call by call with outputs and flags of the same
+-- lengths
 abbrev pub TrafficSpeaks : Type 0
 TrafficSpeaks =
-    (n : ℕ) (made lanes : ℕ → List ℕ) → Generated n made lanes
+    (n : ℕ) (lent lanes : ℕ → List ℕ) → Generated n lent lanes
     → (ex : Places) (flips room outs flagBuffers : ℕ → List ℕ) (t : Trial ex n flips lanes room outs flagBuffers) → Accepted t
     → (lanes′ room′ outs′ flagBuffers′ : ℕ → List ℕ) (b : Trial ex n flips lanes′ room′ outs′ flagBuffers′)
     → ((f : ℕ) → f < n → (length (outs f) ≡ length (outs′ f)) × (length (flagBuffers f) ≡ length (flagBuffers′ f)))
-    → (f : ℕ) → f < n → (w : List ℕ) (r : ℕ) (w′ : List ℕ) → Checks f (t .back f) w r w′ → length w ≡ 32 → w′ ≡ tabulate 32 (wrongInLane b f)
+    → (f : ℕ) → f < n → (c : List ℕ) (r : ℕ) (c′ : List ℕ) → Checks f (t .back f) c r c′ → length c ≡ 32 → c′ ≡ tabulate 32 (wrongInLane b f)
