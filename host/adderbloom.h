@@ -1,5 +1,5 @@
-/* The sending and receiving logic of the 800LR coherent line (OIF-800LR-01.0), the reader of captures, the account of a run and its verdict, for a host
- * program in C. Link with libadderbloom.a: x86-64, System V calling convention.
+/* The sending and receiving logic of the 800LR coherent line (OIF-800LR-01.0), the reader of captures, the account of a run and its verdict, and test traffic
+ * with its checker, for a host program in C. Link with libadderbloom.a: x86-64, System V calling convention.
  *
  * Every call ends, and any bytes, lengths and stored numbers are lawful. Nothing allocates or keeps state of its own: what is kept between calls is the
  * caller's, and calls that share no memory may run at once. A call needs up to 70 kB of stack, and calls memcpy and memset.
@@ -16,9 +16,9 @@
 /* The version of this header and of the archive that comes with it. Any change of what a host was told raises the first number, an addition the second,
  * everything else the third. */
 #define LR800_VERSION_MAJOR 2
-#define LR800_VERSION_MINOR 0
-#define LR800_VERSION_PATCH 2
-#define LR800_VERSION "2.0.2"
+#define LR800_VERSION_MINOR 1
+#define LR800_VERSION_PATCH 0
+#define LR800_VERSION "2.1.0"
 
 #ifdef __cplusplus
 extern "C" {
@@ -31,10 +31,10 @@ extern "C" {
  * something that has no number. Whether a run goes on is told by its phase. */
 enum {
   LR800_DONE = 0, /* no number applies; whether a run goes on is told by its phase */
-  /* by lr800_send, lr800_receive, and 4 by lr800_account_enter */
-  LR800_WRONG_INPUT_LENGTH = 1,   /* input is not LR800_LANES bytes long (sending), LR800_FRAME (receiving) */
+  /* by lr800_send, lr800_receive, 4 by lr800_account_enter, 3 by lr800_traffic_frame and lr800_traffic_next, and 1 and 3 by lr800_traffic_check */
+  LR800_WRONG_INPUT_LENGTH = 1,   /* input is not LR800_LANES bytes long (sending, checking test traffic), LR800_FRAME (receiving) */
   LR800_WRONG_STORE_LENGTH = 2,   /* the store is not LR800_STORE bytes long */
-  LR800_WRONG_OUTPUT_LENGTH = 3,  /* output is not LR800_FRAME bytes long (sending), LR800_LANES (receiving) */
+  LR800_WRONG_OUTPUT_LENGTH = 3,  /* output is not LR800_FRAME bytes long (sending), LR800_LANES (receiving, test traffic), or not LR800_COUNTS counts */
   LR800_WRONG_FLAGS_LENGTH = 4,   /* there are not LR800_FLAGS flag bytes */
   LR800_NO_LOCK = 5,              /* no lock: 25 or more of the 96 pilot bytes differ */
   /* by lr800_read, in what it returns, and lr800_run_step */
@@ -211,19 +211,39 @@ size_t lr800_examine(const uint8_t *capture, size_t capture_length, uint8_t *tex
 /* Its verdict: LR800_NOT_MEASURED, LR800_PASS or LR800_FAIL. */
 uint32_t lr800_examine_verdict(const uint8_t *capture, size_t capture_length);
 
-/* ---- Test traffic ---- */
+/* ---- Test traffic: a known signal in place of the client's, and how much of it comes back wrong ---- */
 
-/* the state after so many bits from all ones; any number of bits */
+/* The signal is PRBS31, x^31 + x^28 + 1 from all ones, inverted: a new bit is the exclusive or of those 28 and 31 before it, and goes out inverted as it
+ * enters. It is placed from lane 0 on, ten bits a lane, and round the lanes again: stream bit 320 s + 10 p + i is bit i of symbol s of lane p, symbols of ten
+ * bits that are counted over the whole stream. A frame is 42,240 bits: frame f begins at stream bit 42,240 f.
+ *
+ * f, which calls take as `frame`, is the number of a frame in the sender's counting: 0 at the fresh start of the stream and one more with each frame sent, so
+ * that a frame which was lost on the line still counts. It is not the number that a frame has in a capture, and it does not run round: a host whose frame
+ * numbers run round must count the frames itself.
+ *
+ * A state is the last 31 bits before they were inverted, the youngest lowest. Any number is lawful: its top bit is not looked at, and is 0 after a call that
+ * was not refused. A state whose 31 bits are all 0 stays 0 and sends ones for ever.
+ *
+ * A refused call changes neither state nor output nor counts. */
+#define LR800_TRAFFIC_SEED 0x7FFFFFFF /* the state before the first bit: all ones */
+#define LR800_COUNTS 32               /* counts of the checker, one a lane, that of lane 0 first */
+
+/* The state after so many bits from LR800_TRAFFIC_SEED on, found directly. Any number of bits is lawful; frame f begins at the state after 42,240 f bits. */
 uint32_t lr800_traffic_state(uint64_t bits);
 
-/* the lanes of frame `frame`, directly. 0, or 3 where output is not 5,280 bytes */
+/* The lanes of frame f, found directly, as lr800_send takes them. Answers 0 or 3. At 0, output has been written in full. */
 uint32_t lr800_traffic_frame(uint32_t frame, uint8_t *output, size_t output_length);
 
-/* a frame from a kept state on; state becomes the state after its 42,240 bits. 0, or 3; refused: state and output unchanged */
+/* The lanes of the frame that begins at a kept state, which moves on to the state after their 42,240 bits. The state is the sender's own: from
+ * LR800_TRAFFIC_SEED on, call by call, the frames are 0, 1, 2 and so on.
+ * Answers 0 or 3. At 0, state and output have been written in full. */
 uint32_t lr800_traffic_next(uint32_t *state, uint8_t *output, size_t output_length);
 
-/* counts the wrong bits of recovered frame `frame` in each lane: wrong[p] is set to the number of compared bits of lane p that differ from what was sent.
- * 0; 1 where lanes is not 5,280 bytes, 3 where wrong is not 32 counts; 1 before 3; refused: nothing changes */
+/* Counts the wrong bits of frame f as lr800_receive recovered it, in each lane: wrong[p] is set to how many of the compared bits of lane p differ from what
+ * was sent 36 blocks (1,440 bits of a lane) before. Of frame 0 nothing is compared, and all counts are set to 0; of frame 1 everything but its first three
+ * blocks (120 bits of a lane); of later frames everything.
+ * Answers 0, 1 or 3. At 0, every count has been set anew; nothing is added to what stood there. After a frame that was lost or refused, the next two frames'
+ * lanes may be wrong, as lr800_receive says: their counts then tell of the loss, and not of flips alone. */
 uint32_t lr800_traffic_check(uint32_t frame, const uint8_t *lanes, size_t lanes_length, uint32_t *wrong, size_t wrong_length);
 
 /* the structs are laid out as in the archive, or this does not compile */

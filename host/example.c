@@ -1,6 +1,6 @@
 /* A rig in small, to copy from. A stream of frames is sent, damaged on its way, received and entered in an account; then the frames are written down as a
- * capture, which is examined in one call and stepped over record by record. Every answer is looked at: the program ends with 1 at the first that is not what
- * it must be.
+ * capture, which is examined in one call and stepped over record by record; and at last test traffic is sent, and what comes back of it is checked. Every
+ * answer is looked at: the program ends with 1 at the first that is not what it must be.
  *   cc example.c -ladderbloom -o example && ./example */
 #include "adderbloom.h"
 #include <inttypes.h>
@@ -13,7 +13,10 @@ enum {
     LOST = 21,                               /* the frame that will not lock, or is left out */
     LANES = 32, LANE_BYTES = LR800_LANES / LANES,
     BEHIND = 180,                            /* bytes by which a lane comes back later: 36 blocks of 40 bits */
-    PILOTS_APART = 64, WRONG_PILOTS = 25     /* a pilot is the first symbol of each 64; so many wrong ones are no lock */
+    PILOTS_APART = 64, WRONG_PILOTS = 25,    /* a pilot is the first symbol of each 64; so many wrong ones are no lock */
+    INFORMATION = 110,                       /* the first bits of a word; those behind them are parity, which no lane has */
+    HIT = 5,                                 /* the frame of test traffic that has words which cannot be mended */
+    TRAFFIC_BITS = 42240                     /* of a frame of test traffic */
 };
 static const uint32_t START = 4294967280u;   /* the first frame's number; the numbers run round at 2^32 within this stream */
 
@@ -58,15 +61,25 @@ static void flip(uint8_t *frame, int word, int bit) {
     frame[64 * (m / 63) + 1 + m % 63] ^= (uint8_t)(1 << (6 - 2 * t + bit % 2));
 }
 
-/* Damages so many words that are whole as yet, each by so many flips. */
-static void damage(uint8_t *frame, uint8_t *flips, int words, int count) {
+/* Damages so many words that are whole as yet, each by so many flips. Answers how many of these are of information. */
+static uint32_t damage(uint8_t *frame, uint8_t *flips, int words, int count) {
+    uint32_t information = 0;
     while (words > 0) {
         int word = (int)random_below(LR800_FLAGS), first = (int)random_below(126);
         if (flips[word]) continue;
-        for (int n = 0; n < count; n++) flip(frame, word, (first + 25 * n) % 126); /* different bits: 25 and 126 have no common divisor */
+        for (int n = 0; n < count; n++) {
+            int bit = (first + 25 * n) % 126; /* different bits: 25 and 126 have no common divisor */
+            flip(frame, word, bit);
+            information += bit < INFORMATION;
+        }
         flips[word] = (uint8_t)count;
         words--;
     }
+    return information;
+}
+
+static void spoil_pilots(uint8_t *frame) {
+    for (int n = 0; n < WRONG_PILOTS; n++) frame[PILOTS_APART * n] ^= 0xFF;
 }
 
 /* The line: every frame has words with one flip and with two, every tenth some with more, and the lost one has wrong pilots. */
@@ -79,8 +92,7 @@ static void damage_frame(uint8_t *frame, uint8_t *flips, int f, int lost) {
         damage(frame, flips, 1, 4);
         damage(frame, flips, 1, 5);
     }
-    if (f == lost)
-        for (int n = 0; n < WRONG_PILOTS; n++) frame[PILOTS_APART * n] ^= 0xFF;
+    if (f == lost) spoil_pilots(frame);
 }
 
 /* Whether a frame's flags say what was done to its words, and whether all its words are whole again. Four flips and more may lie within two bits of another
@@ -242,6 +254,59 @@ static void run_two_at_once(const char *what) {
     print_report(text, lr800_run_report(run, text, sizeof text));
 }
 
+/* Test traffic in place of the pattern, frame after frame from the seed on; any frame can be had directly, too. */
+static void send_traffic(void) {
+    static uint8_t store[LR800_STORE]; /* zero, so fresh */
+    static uint8_t lanes[LR800_LANES], directly[LR800_LANES];
+    uint32_t state = LR800_TRAFFIC_SEED; /* all that is kept between frames */
+    for (int f = 0; f < FRAMES; f++) {
+        must(lr800_traffic_next(&state, lanes, sizeof lanes) == LR800_DONE, "a frame of test traffic was not made");
+        must(lr800_send(lanes, sizeof lanes, store, sizeof store, sent[f], sizeof sent[f]) == LR800_DONE, "a frame of test traffic was not sent");
+    }
+    must(state == lr800_traffic_state((uint64_t)TRAFFIC_BITS * FRAMES), "another state than after so many bits");
+    must(lr800_traffic_frame(FRAMES - 1, directly, sizeof directly) == LR800_DONE, "a frame of test traffic was not made directly");
+    must(memcmp(directly, lanes, sizeof lanes) == 0, "the last frame is another one directly");
+}
+
+/* What comes back of it wrong, lane by lane. A frame is checked by its place in the stream, 0 first, whatever number it has in a capture; a lost one counts,
+ * too. Every frame may have words that can be mended, one has some that cannot, and one does not lock; FRAMES: none. */
+static void check_traffic(const char *what, int mendable, int hit, int lost) {
+    static uint8_t store[LR800_STORE]; /* the receiver's own */
+    static uint8_t frame[LR800_FRAME], lanes[LR800_LANES], flags[LR800_FLAGS], flips[LR800_FLAGS];
+    uint32_t wrong[LR800_COUNTS], in_lane[LR800_COUNTS] = {0}, passed = 0, in_all = 0;
+    int may_be_wrong[LANES / 2] = {0}, frames_with = 0, lanes_with = 0, since = 2; /* frames since a lost one */
+    memset(store, 0, sizeof store); /* fresh */
+    for (int f = 0; f < FRAMES; f++) {
+        uint32_t answer, in_frame = 0;
+        memcpy(frame, sent[f], sizeof frame);
+        memset(flips, 0, sizeof flips);
+        if (mendable) {
+            damage(frame, flips, 20, 1);
+            damage(frame, flips, 6, 2);
+        }
+        if (f == hit) passed = damage(frame, flips, 2, 3); /* three flips are always flagged, and the word passes as it was received */
+        if (f == lost) spoil_pilots(frame);
+        answer = lr800_receive(frame, sizeof frame, store, sizeof store, lanes, sizeof lanes, flags, sizeof flags);
+        must(answer == (f == lost ? LR800_NO_LOCK : LR800_DONE), "a frame was received that does not lock, or refused although it does");
+        since = answer == LR800_DONE ? since + 1 : 0;
+        if (since < 3) continue; /* no lanes, or such as may be wrong by the loss: there is nothing to be learned of the line */
+        must(all_mended(flips, flags) == (f != hit), "a frame was mended that cannot be, or was not although it can");
+        /* a word's information comes back in its own lane and in the one with which that exchanges symbols, 16 on or 16 back */
+        for (int word = 0; word < LR800_FLAGS; word++) may_be_wrong[word % 16] |= flips[word] > 2;
+        must(lr800_traffic_check((uint32_t)f, lanes, sizeof lanes, wrong, LR800_COUNTS) == LR800_DONE, "a frame of test traffic was not checked");
+        for (int p = 0; p < LANES; p++) {
+            must(wrong[p] == 0 || may_be_wrong[p % 16], "bits are wrong in a lane that was not hit");
+            in_lane[p] += wrong[p];
+            in_frame += wrong[p];
+        }
+        frames_with += in_frame > 0;
+        in_all += in_frame;
+    }
+    for (int p = 0; p < LANES; p++) lanes_with += in_lane[p] > 0;
+    must(in_all == passed, "other bits are wrong than were flipped and not mended");
+    printf("\n%s\nwrong bits %" PRIu32 "\nframes with any %d\nlanes with any %d\n", what, in_all, frames_with, lanes_with);
+}
+
 static input whole(size_t length) {
     input from = {0, 0, 0};
     from.length = length;
@@ -262,6 +327,11 @@ int main(void) {
     broken.fails = 1;
     run_capture("all of them, and then a read that fails:", broken, LR800_DONE, LR800_NOT_MEASURED);
     run_two_at_once("the order and the first frame as one piece:");
+    send_traffic();
+    check_traffic("test traffic, undamaged:", 0, FRAMES, FRAMES);
+    check_traffic("test traffic, damaged and mended:", 1, FRAMES, FRAMES);
+    check_traffic("test traffic, two words of a frame not mended:", 1, HIT, FRAMES);
+    check_traffic("test traffic, two words not mended and another frame without lock:", 1, HIT, LOST);
     must(fflush(stdout) == 0, "not all of it was written");
     return 0;
 }

@@ -16,8 +16,8 @@
 enum { NUMBERS = 16, CONTROL = 8 * NUMBERS, PAGE = 4096, GUARD = 0xA5, PILOTS = 96, NO_LOCK = 25, LONGEST = 60000 };
 
 /* the control numbers: the first byte by byte, the others whole; the account's seven stand in its own order */
-enum { CHOICES, PLACE, ACCOUNT, FIGURES = ACCOUNT + 7, GOT, ROOM, STOPPED };
-enum { SIDE, INPUT_LENGTH, STORE_LENGTH, OUTPUT_LENGTH, FLAGS_LENGTH, STORE_FROM, RAW_FLAGS };
+enum { CHOICES, PLACE, ACCOUNT, FIGURES = ACCOUNT + 7, GOT, ROOM, STOPPED, BITS, TRAFFIC };
+enum { SIDE, INPUT_LENGTH, STORE_LENGTH, OUTPUT_LENGTH, FLAGS_LENGTH, STORE_FROM, RAW_FLAGS, COUNTS_LENGTH };
 
 #define MUST(holds) ((holds) ? (void)0 : broken(#holds, __LINE__))
 
@@ -33,7 +33,8 @@ __attribute__((section("__libfuzzer_extra_counters")))
 #endif
 static uint8_t marks[1024];
 
-enum { READ_AS, RECEIVED, SENT, ENTERED, LOST, STEPPED, JUDGED, STEPS, PILOTS_WRONG, WORDS_ONE, WORDS_TWO, WORDS_FLAGGED, REPORTED, EXAMINED };
+enum { READ_AS, RECEIVED, SENT, ENTERED, LOST, STEPPED, JUDGED, STEPS, PILOTS_WRONG, WORDS_ONE, WORDS_TWO, WORDS_FLAGGED, REPORTED, EXAMINED, MADE,
+       CHECKED };
 
 static void mark(unsigned what, uint64_t value) {
     marks[(64 * what + (value < 63 ? value : 63)) % sizeof marks] = 1;
@@ -526,6 +527,86 @@ static void check_runs(void) {
     check_report(runs[0]);
 }
 
+/* ---- Test traffic ---- */
+
+enum { TRAFFIC_BITS = 42240, STATE_MASK = 0x7FFFFFFF, LANE_BYTES = LR800_LANES / LR800_COUNTS, LATE_BYTES = 15 };
+
+static uint32_t stepped(uint32_t state) {
+    return (state << 1 | ((state >> 27 ^ state >> 30) & 1)) & STATE_MASK;
+}
+
+/* Whether these are the lanes that are sent from a state on, by stepping. The state moves on. */
+static int sent_from(uint32_t *state, const uint8_t *lanes) {
+    for (size_t s = 0; s < TRAFFIC_BITS / 320; s++)
+        for (size_t p = 0; p < LR800_COUNTS; p++)
+            for (size_t n = 10 * s; n < 10 * s + 10; n++) {
+                *state = stepped(*state);
+                if ((lanes[LANE_BYTES * p + n / 8] >> (7 - n % 8) & 1) == (*state & 1)) return 0;
+            }
+    return 1;
+}
+
+/* The lanes from any state, and from where a frame begins, which are those of the frame by its number. The top bit of a state is not looked at. */
+static void check_made(uint32_t any, uint32_t frame) {
+    static fence output, directly;
+    size_t n = some_length(OUTPUT_LENGTH, LR800_LANES);
+    uint32_t expected = n == LR800_LANES ? 0 : 3, begins = lr800_traffic_state((uint64_t)TRAFFIC_BITS * frame);
+    uint32_t froms[] = {any, any ^ ((uint32_t)1 << 31), begins};
+    for (unsigned i = 0; i < sizeof froms / sizeof froms[0]; i++) {
+        uint8_t filler = i % 2 ? 0xC3 : 0x3C, *out = lend(&output, n, filler);
+        uint32_t state = froms[i], after = froms[i];
+        MUST(lr800_traffic_next(&state, out, n) == expected);
+        mark(MADE, expected);
+        if (expected != 0) MUST(all_are(out, n, filler));
+        else MUST(sent_from(&after, out));
+        MUST(state == after);
+        check_fence(&output);
+        if (froms[i] != begins) continue;
+        uint8_t *same = lend(&directly, n, (uint8_t)~filler);
+        MUST(lr800_traffic_frame(frame, same, n) == expected);
+        if (expected != 0) MUST(all_are(same, n, (uint8_t)~filler));
+        else MUST(same_bytes(same, out, n) && state == lr800_traffic_state((uint64_t)TRAFFIC_BITS * frame + TRAFFIC_BITS));
+        check_fence(&directly);
+    }
+}
+
+/* Of what comes back of the two frames before, the input's bytes flipped: each flip is counted in its lane, but for those before the stream began. */
+static void check_counts(uint32_t frame) {
+    static fence input, counts;
+    static uint8_t before[LR800_LANES], last[LR800_LANES], lent[LONGEST];
+    size_t n = some_length(INPUT_LENGTH, LR800_LANES), count = some_length(COUNTS_LENGTH, LR800_COUNTS);
+    size_t skipped = frame == 0 ? LANE_BYTES : frame == 1 ? LATE_BYTES : 0;
+    uint32_t expected = n != LR800_LANES ? 1 : count != LR800_COUNTS ? 3 : 0, flips[LR800_COUNTS] = {0};
+    uint8_t *lanes = lend_filled(&input, n, capture, capture_length);
+    MUST(lr800_traffic_frame(frame - 1, last, sizeof last) == 0 && lr800_traffic_frame(frame - 2, before, sizeof before) == 0);
+    for (size_t i = 0; i < n && expected == 0; i++) {
+        size_t p = i / LANE_BYTES, j = i % LANE_BYTES;
+        for (unsigned bit = 0; bit < 8; bit++) flips[p] += j >= skipped && (lanes[i] >> bit & 1);
+        lanes[i] ^= j < LATE_BYTES ? before[i + LANE_BYTES - LATE_BYTES] : last[i - LATE_BYTES];
+    }
+    if (n) memcpy(lent, lanes, n);
+    for (int again = 0; again < 2; again++) { /* over other counts: what stands there must not matter */
+        uint8_t filler = again ? 0xC3 : 0x3C, *wrong = lend(&counts, count * sizeof(uint32_t), filler);
+        MUST(lr800_traffic_check(frame, lanes, n, (uint32_t *)(void *)wrong, count) == expected);
+        mark(CHECKED, expected);
+        if (expected != 0) MUST(all_are(wrong, count * sizeof(uint32_t), filler));
+        else MUST(memcmp(wrong, flips, sizeof flips) == 0);
+        MUST(same_bytes(lanes, lent, n));
+        check_fence(&input);
+        check_fence(&counts);
+    }
+}
+
+static void check_traffic(void) {
+    uint64_t bits = control[BITS];
+    uint32_t frame = (uint32_t)control[TRAFFIC], state = lr800_traffic_state(bits);
+    MUST(lr800_traffic_state(0) == LR800_TRAFFIC_SEED && state != 0 && state <= STATE_MASK);
+    if (bits != UINT64_MAX) MUST(lr800_traffic_state(bits + 1) == stepped(state));
+    check_made((uint32_t)(control[TRAFFIC] >> 32), frame);
+    check_counts(frame);
+    for (uint32_t first = 0; first < 3; first++) check_counts(first);
+}
+
 int LLVMFuzzerTestOneInput(const uint8_t *data, size_t size) {
     static fence lent;
     static int begun;
@@ -545,6 +626,7 @@ int LLVMFuzzerTestOneInput(const uint8_t *data, size_t size) {
     if (first.kind == LR800_RECORD_ORDER) first = read_at(first.next);
     size_t from = first.kind == LR800_RECORD_FRAME ? first.symbols : 0;
     check_receive(from_place(from), capture_length - from);
+    check_traffic();
 
     /* any stored numbers are lawful */
     lr800_run run = {(uint32_t)(control[STOPPED] >> 32), (uint32_t)(control[FIGURES] >> 32), (uint32_t)control[FIGURES],

@@ -11,7 +11,8 @@ enum { SIZE = 1 << 20, PAINT = 0xA7, SAID = 70000 };
 static uint8_t lanes[LR800_LANES], frame[LR800_FRAME], store[LR800_STORE], flags[LR800_FLAGS], text[LR800_REPORT];
 static uint8_t capture[LR800_ORDER_BYTES + LR800_FRAME_BYTES] = {0, 0, 0, 14, 1, 0, 0, 0, 0, 0, 0, 0, 0, 1}; /* an order of one frame, and the frame */
 static uint8_t *const record = capture + LR800_ORDER_BYTES;
-static uint32_t verdict;
+static uint8_t next_lanes[LR800_LANES];
+static uint32_t verdict, state, wrong[LR800_COUNTS];
 static lr800_run run;
 
 static void *nothing(void *x) { return x; }
@@ -22,6 +23,11 @@ static void *step_one(void *x) { lr800_run_step(&run, record, LR800_FRAME_BYTES)
 static void *report_it(void *x) { lr800_run_report(run, text, sizeof text); return x; }
 static void *examine_one(void *x) { lr800_examine(capture, sizeof capture, text, sizeof text); return x; }
 static void *judge_one(void *x) { verdict = lr800_examine_verdict(capture, sizeof capture); return x; }
+/* the highest numbers: the further away a state is, the deeper the call goes */
+static void *find_state(void *x) { state = lr800_traffic_state(UINT64_MAX); return x; }
+static void *make_one(void *x) { lr800_traffic_frame(UINT32_MAX, lanes, sizeof lanes); return x; }
+static void *make_next(void *x) { lr800_traffic_next(&state, next_lanes, sizeof next_lanes); return x; }
+static void *check_one(void *x) { lr800_traffic_check(UINT32_MAX, lanes, sizeof lanes, wrong, LR800_COUNTS); return x; }
 
 static size_t taken(void *(*call)(void *)) {
     static uint8_t *stack;
@@ -40,10 +46,25 @@ static size_t taken(void *(*call)(void *)) {
     return SIZE - untouched;
 }
 
+/* The signal repeats after 2^31 - 1 bits: 2^64 - 1 bits lead where 3 do, and frame 2^32 - 1 is frame 1. Of each bit that is compared it or its inverse is
+ * wrong. */
+static int traffic_is_right(void) {
+    static uint8_t same[LR800_LANES];
+    uint32_t after = lr800_traffic_state(3), inverse_wrong[LR800_COUNTS];
+    if (lr800_traffic_next(&after, same, sizeof same) != LR800_DONE || after != state || memcmp(same, next_lanes, sizeof same) != 0) return 0;
+    if (lr800_traffic_frame(1, same, sizeof same) != LR800_DONE || memcmp(same, lanes, sizeof same) != 0) return 0;
+    for (size_t i = 0; i < sizeof same; i++) same[i] ^= 0xFF;
+    if (lr800_traffic_check(UINT32_MAX, same, sizeof same, inverse_wrong, LR800_COUNTS) != LR800_DONE) return 0;
+    for (int p = 0; p < LR800_COUNTS; p++)
+        if (wrong[p] + inverse_wrong[p] != 8 * LR800_LANES / LR800_COUNTS) return 0;
+    return 1;
+}
+
 int main(void) {
-    static void *(*const calls[])(void *) = {send_one, receive_one, enter_one, step_one, report_it, examine_one, judge_one};
+    static void *(*const calls[])(void *) = {send_one, receive_one, enter_one, step_one, report_it, examine_one, judge_one,
+                                             find_state, make_one, make_next, check_one};
     static const char *const names[] = {"lr800_send", "lr800_receive", "lr800_account_enter", "lr800_run_step", "lr800_run_report", "lr800_examine",
-                                        "lr800_examine_verdict"};
+                                        "lr800_examine_verdict", "lr800_traffic_state", "lr800_traffic_frame", "lr800_traffic_next", "lr800_traffic_check"};
     static const uint8_t head[10] = {0, 0, 0x18, 0x06, 1, 1, 0, 0, 0, 0}; /* a frame, number 0 */
     size_t idle = taken(nothing), most = 0;
     run.phase = LR800_GOING;
@@ -56,7 +77,7 @@ int main(void) {
         printf("%s takes %lu bytes of stack\n", names[i], (unsigned long)bytes);
         if (bytes > most) most = bytes;
     }
-    if (run.account.accepted != 2 || verdict != LR800_PASS) {
+    if (run.account.accepted != 2 || verdict != LR800_PASS || !traffic_is_right()) {
         fprintf(stderr, "stack: the calls did not do their work\n");
         return 1;
     }
