@@ -96,7 +96,8 @@ sum-one (suc k) f zero h = ap₂ bitXor (sum-none k (λ i. f (suc i))) (one-mul 
 sum-one (suc k) f (suc i) h =
     let e : 2 ^ suc i / 2 ≡ 2 ^ i = omega (arith, pow-suc 2 i) in
     let o : 2 ^ suc i % 2 ≡ 0 = omega (arith, pow-suc 2 i) in
-    ap₂ bitXor (ap (sumAt k (λ j. f (suc j))) e ∙ sum-one k (λ j. f (suc j)) i (omega arith)) (ap (λ (x : ℕ). x * f 0) o ∙ zero-mul (f 0)) ∙ xor-zero-r (f (suc i))
+    ap₂ bitXor (ap (sumAt k (λ j. f (suc j))) e ∙ sum-one k (λ j. f (suc j)) i (omega arith)) (ap (λ (x : ℕ). x * f 0) o ∙ zero-mul (f 0))
+    ∙ xor-zero-r (f (suc i))
 
 -- what is left of a sum from term i on: term i, and what is left behind it
 pub sum-rest : (k : ℕ) (f : ℕ → ℕ) (b i : ℕ) → i < k

@@ -90,7 +90,8 @@ pub number-xor : (n : ℕ) (f g : ℕ → ℕ) → ((i : ℕ) → f i < 2) → (
 unfolding value
 number-xor zero f g hf hg = refl
 number-xor (suc n) f g hf hg =
-    ap₂ (λ (x y : ℕ). x * 2 + y) (number-xor n f g hf hg) (xor-bits (f n) (g n) (hf n) (hg n)) ∙ sym (xor-double (number n f) (number n g) (f n) (g n) (hf n) (hg n))
+    ap₂ (λ (x y : ℕ). x * 2 + y) (number-xor n f g hf hg) (xor-bits (f n) (g n) (hf n) (hg n))
+    ∙ sym (xor-double (number n f) (number n g) (f n) (g n) (hf n) (hg n))
   where
     xor-bits : (x y : ℕ) → x < 2 → y < 2 → differ x y ≡ bitXor x y
     xor-bits zero zero hx hy = refl

@@ -1,4 +1,5 @@
--- What the checker counts: lanes compared with lanes sent from the right bit on are compared with what was sent 36 blocks before. `Compared` and `CountsExactly`.
+-- What the checker counts: lanes compared with lanes sent from the right bit on are compared with what was sent 36 blocks before.
+-- `Compared` and `CountsExactly`.
 -- Assumes nothing.
 use mathlib.Core.Path.{_≡_, refl, sym, ap, ap₂, _∙_}
 use mathlib.Core.Bool.{not, _&&_}
@@ -7,6 +8,7 @@ use Prim.Native.Nat.{ℕ, zero, suc, _+_, _*_, _-_, _≤_, _<_}
 use native.Mathlib.Decide.{decLt}
 use native.Mathlib.Omega.{arith}
 use lib.Dec.{eqb, ltb}
+use lib.ListN.{length}
 use borrow.Author.Tests.{lt-ltb, le-ltb}
 use Rattle.bits.specs.definitions.Bits.{tabulate, bitAt, count}
 use Rattle.bits.proofs.Count.{count-cong}
@@ -14,11 +16,11 @@ use Rattle.bits.proofs.Tabulate.{tabulate-cong}
 use Rattle.lanes.specs.definitions.Stream.{streamBit}
 use Rattle.lanes.proofs.Stream.{stream-cut}
 use Rattle.traffic.specs.definitions.Register.{seed, stateAfter, bitFrom, trafficBit}
-use Rattle.traffic.specs.definitions.Traffic.{placed, trafficFrom}
-use Rattle.traffic.specs.definitions.Checker.{wrongBit, wrongCounts}
+use Rattle.traffic.specs.definitions.Traffic.{placed, trafficFrom, Continues}
+use Rattle.traffic.specs.definitions.Checker.{wrongBit, wrongCounts, Checks}
 use Rattle.traffic.specs.private.Counting.{differs, FillOf, StartOf}
 use Rattle.traffic.specs.statements.Checker.{Compared, CountsExactly}
-use Rattle.traffic.proofs.Frames.{placed-later, from-placed, checks-left, stream-placed}
+use Rattle.traffic.proofs.Frames.{placed-later, from-placed, continues-left, checks-done, checks-left, stream-placed}
 
 -- ---- the checker's fill and start, by arithmetic
 
@@ -63,9 +65,17 @@ module _ (f fill start : ℕ) (lanes sent : List ℕ) (F : FillOf f fill) (S : S
           rw (le-ltb i (8 * fill) (behind-fill f fill i F hi l .0), le-ltb (1320 * f + i) 1440 l, sent-bit p i hp hi l)
 
   -- so the counts of the lanes are those of the wrong bits
-  pub counts-wrong : tabulate 32 (λ p. count (differs fill lanes sent p) 1320) ≡ wrongCounts f lanes
+  counts-wrong : tabulate 32 (λ p. count (differs fill lanes sent p) 1320) ≡ wrongCounts f lanes
   unfolding wrongCounts
   counts-wrong = tabulate-cong 32 _ _ (λ p hp. count-cong 1320 _ _ (λ i hi. differs-wrong p i hp hi))
+
+-- and so a call that compares with the frame from the right state on counts them
+pub checks-counted : {f fill start state r state′ : ℕ} (lanes c sent₀ : List ℕ) {sent c′ : List ℕ} → length lanes ≡ 5280 → length c ≡ 32 → FillOf f fill
+    → StartOf f start → state ≡ stateAfter start → length sent₀ ≡ 5280 → Continues state sent₀ r state′ sent
+    → c′ ≡ tabulate 32 (λ p. count (differs fill lanes sent p) 1320) → Checks f lanes c 0 c′
+checks-counted {f} {fill} {start} {state} {r} {state′} lanes c sent₀ {sent} {c′} hl hc F S e lent C counted =
+    let is = continues-left state sent₀ r state′ sent lent C .2 ∙ ap trafficFrom e in
+    checks-done f lanes c c′ hl hc (counted ∙ counts-wrong f fill start lanes sent F S is)
 
 pub what-is-compared : Compared
 what-is-compared = (

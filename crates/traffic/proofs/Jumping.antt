@@ -69,13 +69,15 @@ module _ (s : ℕ) (h : s < 2 ^ 31) where
       linear-agree 31 (λ c. sumAt 31 (stateFrom s) (termsOf (nextState (termsOf c)))) (λ c. nextState (sumAt 31 (stateFrom s) c)) (sum-none 31 (stateFrom s))
       (ap nextState (sum-none 31 (stateFrom s)))
       (λ x y.
-      ap (sumAt 31 (stateFrom s)) (ap termsOf (ap nextState (terms-xor x y) ∙ next-xor (termsOf x) (termsOf y)) ∙ terms-xor (nextState (termsOf x)) (nextState (termsOf y)))
+      ap (sumAt 31 (stateFrom s)) (ap termsOf (ap nextState (terms-xor x y) ∙ next-xor (termsOf x) (termsOf y))
+      ∙ terms-xor (nextState (termsOf x)) (nextState (termsOf y)))
       ∙ sum-xor 31 (stateFrom s) (termsOf (nextState (termsOf x))) (termsOf (nextState (termsOf y))))
       (λ x y. ap nextState (sum-xor 31 (stateFrom s) x y) ∙ next-xor (sumAt 31 (stateFrom s) x) (sumAt 31 (stateFrom s) y))
       (λ i l. at i (decLt i 30) l)
     where
       last : sumAt 31 (stateFrom s) (termsOf (nextState (termsOf (2 ^ 30)))) ≡ stateFrom s 31
-      last = sum-xor 31 (stateFrom s) (2 ^ 3) (2 ^ 0) ∙ ap₂ bitXor (sum-one 31 (stateFrom s) 3 (lit< tt)) (sum-one 31 (stateFrom s) 0 (lit< tt)) ∙ sym (rule s h)
+      last = sum-xor 31 (stateFrom s) (2 ^ 3) (2 ^ 0) ∙ ap₂ bitXor (sum-one 31 (stateFrom s) 3 (lit< tt)) (sum-one 31 (stateFrom s) 0 (lit< tt))
+          ∙ sym (rule s h)
 
       at : (i : ℕ) → Dec (i < 30) → i < 31
           → sumAt 31 (stateFrom s) (termsOf (nextState (termsOf (2 ^ i)))) ≡ nextState (sumAt 31 (stateFrom s) (2 ^ i))

@@ -65,10 +65,12 @@ module _ (s m d : ℕ) (h : s < 2 ^ 31) (R : Rule d) where
       let f : m + q + 3 * d ≡ m + 3 * d + q = omega arith in
       let three : stateFrom t (3 * d) ≡ stateFrom s (m + 3 * d + q) = sym (from-add s (m + q) (3 * d)) ∙ ap (stateFrom s) f in
       ap (λ (x : ℕ). 1 - entering x) (ap (stateFrom s) e ∙ from-add s (m + q) (31 * d) ∙ R t (from-lt s (m + q) h))
-      ∙ ap (λ (x : ℕ). 1 - x) (entering-xor (stateFrom t (3 * d)) t) ∙ sums-inverted (entering (stateFrom t (3 * d))) (entering t) (entering-lt _) (entering-lt _)
+      ∙ ap (λ (x : ℕ). 1 - x) (entering-xor (stateFrom t (3 * d)) t)
+      ∙ sums-inverted (entering (stateFrom t (3 * d))) (entering t) (entering-lt _) (entering-lt _)
       ∙ ap (λ (x : ℕ). 1 - differ (1 - entering x) (1 - entering t)) three
 
-  pub follows : 2 ^ 64 - 1 - bitXor (number 64 (λ q. bitFrom s (m + 3 * d + q))) (number 64 (λ q. bitFrom s (m + q))) ≡ number 64 (λ q. bitFrom s (m + 31 * d + q))
+  pub follows : 2 ^ 64 - 1 - bitXor (number 64 (λ q. bitFrom s (m + 3 * d + q))) (number 64 (λ q. bitFrom s (m + q)))
+      ≡ number 64 (λ q. bitFrom s (m + 31 * d + q))
   follows =
       ap (λ (x : ℕ). 2 ^ 64 - 1 - x) (sym (number-xor 64 f g (λ q. sent-lt _) (λ q. sent-lt _)))
       ∙ sym (number-inverted 64 (λ q. differ (f q) (g q)) (λ q _. differ-lt (f q) (g q) (sent-lt _) (sent-lt _)))
@@ -98,7 +100,8 @@ second-word s {a} {b} {c} ea eb ec =
     let is : c ≡ stateFrom s 64 =
     ec ∙ ap (λ (x : ℕ). stateFrom x 8) (eb ∙ ap (λ (x : ℕ). stateFrom x 28) ea ∙ sym (from-add s 28 28)) ∙ sym (from-add s 56 8) in
     value-cong 2 64 _ _
-    (λ q _. ap (λ (x : ℕ). bitFrom x (64 * 0 + q)) is ∙ sym (bit-add s 64 (64 * 0 + q)) ∙ let e : 64 + (64 * 0 + q) ≡ 64 * 1 + q = omega arith in ap (bitFrom s) e)
+    (λ q _. ap (λ (x : ℕ). bitFrom x (64 * 0 + q)) is ∙ sym (bit-add s 64 (64 * 0 + q))
+    ∙ let e : 64 + (64 * 0 + q) ≡ 64 * 1 + q = omega arith in ap (bitFrom s) e)
 
 -- ---- loops that fill a stream
 

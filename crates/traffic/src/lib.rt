@@ -333,7 +333,8 @@ fn start_of(f: u32) -> u64
     bits::wide32(f) * 42240 - 46080
 }
 
-// How many bits of each lane of recovered frame f are wrong. Refused: 1, the lanes are not 5,280 bytes; 3, there are not 32 counts.
+// How many bits of each lane of recovered frame f are wrong; f counts from the fresh start. Later frames have no fill: where that is written out, the compiler
+// counts faster. Refused: 1, the lanes are not 5,280 bytes; 3, there are not 32 counts.
 pub fn check(f: u32, lanes: &[u8], wrong: &mut [u32]) -> u32
     ensures { λ r. ⌜ Checks f (now (lanes .entry)) (now (wrong .entry)) r (now (wrong .exit)) ⌝ }
 {
@@ -346,6 +347,10 @@ pub fn check(f: u32, lanes: &[u8], wrong: &mut [u32]) -> u32
     let mut state = state_after(start_of(f));
     let mut sent = [0u8; 5280];
     next_frame(&mut state, &mut sent);
-    count_lanes(fill_of(f), lanes, &sent, wrong);
+    if f < 2 {
+        count_lanes(fill_of(f), lanes, &sent, wrong);
+        return 0;
+    }
+    count_lanes(0, lanes, &sent, wrong);
     0
 }

@@ -77,8 +77,8 @@ pub record Demands : Type 0 where
   pub pairs : FourPairs
   pub elsewhere : OtherPlaces
   pub otherPairs : OtherPairs
-  -- 02, request 01: test traffic is PRBS31, and a state is found directly; the figures of the second program; frames one after the other and asked for directly,
-  -- and that there are such calls; and that a state's top bit is not looked at
+  -- 02, request 01: test traffic is PRBS31, and a state is found directly; the figures of the second program; frames one after
+  -- the other and asked for directly, and that there are such calls; and that a state's top bit is not looked at
   pub prbs31 : Prbs31
   pub directState : DirectState
   pub trafficFigures : TrafficFigures
@@ -87,8 +87,8 @@ pub record Demands : Type 0 where
   pub oneSequence : OneSequence
   pub trafficExists : TrafficExists
   pub topBit : TopBit
-  -- 02, request 01: what the checker compares, and what it counts of whatever came back, undamaged, and hit by flips; which bits are wrong; and that test traffic
-  -- speaks for all lanes
+  -- 02, request 01: what the checker compares, and what it counts of whatever came back, undamaged, and hit by flips; which
+  -- bits are wrong; and that test traffic speaks for all lanes
   pub compared : Compared
   pub countsExactly : CountsExactly
   pub trafficReturns : TrafficReturns

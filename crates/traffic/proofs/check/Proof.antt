@@ -1,10 +1,10 @@
--- `traffic::check` meets its contract: `counts-wrong`, over what was sent 36 blocks before. Assumes nothing.
-use mathlib.Core.Path.{ap, _∙_}
+-- `traffic::check` meets its contract: `checks-counted`, over what was sent 36 blocks before. Assumes nothing.
+use mathlib.Core.Path.{refl}
 use Prim.Native.Nat.{ℕ}
+use native.Mathlib.Omega.{arith}
 use lib.ListN.{length-replicate}
-use Rattle.traffic.specs.definitions.Traffic.{trafficFrom}
-use Rattle.traffic.proofs.Frames.{continues-left, checks-refused-lanes, checks-refused-counts, checks-done}
-use Rattle.traffic.proofs.Counts.{counts-wrong}
+use Rattle.traffic.proofs.Frames.{checks-refused-lanes, checks-refused-counts}
+use Rattle.traffic.proofs.Counts.{checks-counted}
 use borrow.Author.Needs.{needs}
 use Rattle.traffic.proofs.check.Statement.{statement}
 use Rattle.traffic.proofs.check.Tie as tie
@@ -13,14 +13,21 @@ returns-3 : tie.Need-returns-3
 returns-3 c =
     let counted = c .before .before in
     let filled = counted .before .before .before in
-    let sent = filled .before .before in
+    let sent = filled .before .before .before in
     let found = sent .before .before .before in
     let tests = found .before .before in
-    let start = tests .before .before .before .before in
-    let is = continues-left _ _ _ _ _ (length-replicate {A = ℕ} 5280 0) (sent .next-frame .ensures) .2 ∙ ap trafficFrom (found .state-after .ensures) in
-    checks-done _ _ _ _ (tests .before .if1 .left) (tests .if2 .left)
-    (counted .count-lanes .ensures
-    ∙ counts-wrong (start .args .f) _ _ (start .args .lanes .now) _ (filled .fill-of .ensures) (found .before .start-of .ensures) is)
+    checks-counted _ _ _ (tests .before .if1 .left) (tests .if2 .left) (filled .fill-of .ensures) (found .before .start-of .ensures)
+    (found .state-after .ensures) (length-replicate {A = ℕ} 5280 0) (sent .next-frame .ensures) (counted .count-lanes .ensures)
+
+returns-4 : tie.Need-returns-4
+returns-4 c =
+    let counted = c .before .before in
+    let sent = counted .before .before .before .before .before in
+    let found = sent .before .before .before in
+    let tests = found .before .before in
+    checks-counted _ _ _ (tests .before .if1 .left) (tests .if2 .left)
+    (record { most = omega arith; none = λ e. absurd (omega arith); first = λ e. absurd (omega arith); later = λ _. refl }) (found .before .start-of .ensures)
+    (found .state-after .ensures) (length-replicate {A = ℕ} 5280 0) (sent .next-frame .ensures) (counted .count-lanes2 .ensures)
 
 pub check-spec : {M : Type 1} → statement M
 check-spec =
@@ -36,4 +43,8 @@ check-spec =
     (λ c. search needs)
     (λ c κs. search needs)
     (λ c. search needs)
-    returns-3)
+    returns-3
+    (λ c. search needs)
+    (λ c κs. search needs)
+    (λ c. search needs)
+    returns-4)

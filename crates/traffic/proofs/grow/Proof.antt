@@ -46,7 +46,8 @@ loop-again c =
     let pre = l .before .pre in (
       omega arith,
       omega arith,
-      grows-more (i .2) (omega (arith, i .2 .long, pre .3, pre .4)) (λ s h S. word-grown h S d (rule-at d (pre .0)) (omega (arith, pre .1, i .0)) (some d (pre .0))),
+      grows-more (i .2) (omega (arith, i .2 .long, pre .3, pre .4))
+          (λ s h S. word-grown h S d (rule-at d (pre .0)) (omega (arith, pre .1, i .0)) (some d (pre .0))),
     )
 
 returns : tie.Need-returns Inv-loop μ-loop

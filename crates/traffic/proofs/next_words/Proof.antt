@@ -31,7 +31,8 @@ loop-again c =
     let i = l .loop .inv in (
       omega arith,
       omega arith,
-      grows-more (i .2) (omega (arith, i .2 .long, l .before .before .pre)) (λ s h S. word-next h S (i .0) _ _ (c .before .window .ensures) (c .window2 .ensures)),
+      grows-more (i .2) (omega (arith, i .2 .long, l .before .before .pre))
+          (λ s h S. word-next h S (i .0) _ _ (c .before .window .ensures) (c .window2 .ensures)),
     )
 
 returns : tie.Need-returns Inv-loop μ-loop

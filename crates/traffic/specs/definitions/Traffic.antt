@@ -20,8 +20,8 @@ frameBits = 42240
 unfoldable pub trafficFrom : ℕ → List ℕ
 trafficFrom s = laneBytes (placed (bitFrom s))
 
--- the lanes of frame f, counted from the fresh start and not by a capture's numbers: it begins at stream bit 42,240 f, so it has bits 1,320 f to 1,320 f + 1,319
--- of every lane of the test signal
+-- the lanes of frame f, counted from the fresh start and not by a capture's numbers: it begins at stream bit 42,240 f, so it has
+-- bits 1,320 f to 1,320 f + 1,319 of every lane of the test signal
 unfoldable pub trafficFrame : ℕ → List ℕ
 trafficFrame f = laneBytes (λ p i. placed trafficBit p (1320 * f + i))
 
