@@ -5,7 +5,7 @@ mod records;
 mod runs;
 mod test_traffic;
 
-ghost use Rattle.framing.specs.definitions.Call.{base};
+ghost use Rattle.framing.specs.definitions.Places.{base};
 ghost use Rattle.framing.specs.definitions.Send.{Sends};
 ghost use Rattle.framing.specs.definitions.Receive.{Receives};
 ghost use mathlib.Core.Path.{_≡_};

@@ -4,20 +4,20 @@ use mathlib.Core.Path.{_≡_, refl, sym, ap, ap₂, _∙_, subst}
 use mathlib.Core.Bool.{Bool}
 use mathlib.Core.List.{List}
 use Prim.Native.Nat.{ℕ, _+_, _*_, _/_, _%_, _^_, _<_, zero-le}
-use native.Mathlib.Nat.{add-zero, div-one}
+use native.Mathlib.Nat.{div-one}
 use native.Mathlib.Omega.{arith}
 use lib.Arith.{digits-lt}
-use lib.Bits.{bitXor, xor-shr, xor-mod, xor-block}
+use lib.Bits.{bitXor, xor-shr, xor-mod}
 use lib.Dec.{T, eqb, eqb→eq, lit<}
 use lib.ListN.{getD, set}
-use lib.Pow.{pow-pos, shr-shr, mod-pow-add, high, low}
+use lib.Pow.{shr-shr, mod-pow-add, high, low}
 use Rattle.bits.specs.definitions.Bits.{tabulate}
 use Rattle.bits.specs.definitions.Words.{wordAt}
 use Rattle.bits.proofs.Filling.{Filling, filling-at}
 use Rattle.bits.proofs.Sums.{sums-linear}
 use Rattle.bits.proofs.Table.{each, range-rule}
 use Rattle.bits.proofs.Tabulate.{getD-tabulate, tabulate-cong}
-use Rattle.bits.proofs.Xor.{xor-four}
+use Rattle.bits.proofs.Xor.{xor-four, xor-shl}
 use Rattle.bch.specs.definitions.Code.{stepOf, feedOf, remainder}
 use Rattle.bch.specs.private.Folded.{FoldedWords}
 use Rattle.bch.specs.private.Digits.{ofDigits, ofDigitsAt, digitAt, digitsOf}
@@ -51,16 +51,11 @@ right F k =
       keeps = λ r s d e. ap (λ (x : ℕ). x / 2 ^ k) (F .keeps r s d e) ∙ xor-shr (F .of r d) (F .of s e) k;
     }
 
-pub shift-xor : (a b k : ℕ) → bitXor a b * 2 ^ k ≡ bitXor (a * 2 ^ k) (b * 2 ^ k)
-shift-xor a b k = sym (simp add-zero at (xor-block k a b 0 0 (pow-pos k) (pow-pos k)))
-
 abbrev left : Linear → ℕ → Linear
 left F k =
     record {
       of = λ r d. F .of r d * 2 ^ k % 2 ^ 16;
-      keeps = λ r s d e.
-          ap (λ (x : ℕ). x * 2 ^ k % 2 ^ 16) (F .keeps r s d e) ∙ ap (λ (x : ℕ). x % 2 ^ 16) (shift-xor (F .of r d) (F .of s e) k)
-          ∙ xor-mod (F .of r d * 2 ^ k) (F .of s e * 2 ^ k) 16;
+      keeps = λ r s d e. ap (λ (x : ℕ). x * 2 ^ k % 2 ^ 16) (F .keeps r s d e) ∙ xor-shl (F .of r d) (F .of s e) k 16;
     }
 
 -- as the code has it: the quotient, and the generator's lower terms as often as it says

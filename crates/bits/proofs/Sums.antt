@@ -72,6 +72,20 @@ sum-xor (suc k) f a b =
     (ap (λ (x : ℕ). x * f 0) (xor-odd a b) ∙ differ-mul (a % 2) (b % 2) (f 0) (mod-lt a (lit< tt)) (mod-lt b (lit< tt)))
     ∙ xor-four (sumAt k g (a / 2)) (sumAt k g (b / 2)) (a % 2 * f 0) (b % 2 * f 0)
 
+-- and linear in the terms
+pub sum-both : (k : ℕ) (f g : ℕ → ℕ) (b : ℕ) → sumAt k (λ i. bitXor (f i) (g i)) b ≡ bitXor (sumAt k f b) (sumAt k g b)
+unfolding sumAt
+sum-both zero f g b = refl
+sum-both (suc k) f g b =
+    let f′ : ℕ → ℕ = λ i. f (suc i) in
+    let g′ : ℕ → ℕ = λ i. g (suc i) in
+    ap₂ bitXor (sum-both k f′ g′ (b / 2)) (picked (b % 2) (bit-cases (b % 2) (mod-lt b (lit< tt))))
+    ∙ xor-four (sumAt k f′ (b / 2)) (sumAt k g′ (b / 2)) (b % 2 * f 0) (b % 2 * g 0)
+  where
+    picked : (x : ℕ) → (x ≡ 0) ⊎ (x ≡ 1) → x * bitXor (f 0) (g 0) ≡ bitXor (x * f 0) (x * g 0)
+    picked x (inl q) = rw (q, zero-mul (f 0), zero-mul (g 0)) (zero-mul (bitXor (f 0) (g 0)))
+    picked x (inr q) = rw (q, one-mul (f 0), one-mul (g 0)) (one-mul (bitXor (f 0) (g 0)))
+
 -- it depends on the first k terms alone
 pub sum-cong : (k : ℕ) (f g : ℕ → ℕ) (b : ℕ) → ((i : ℕ) → i < k → f i ≡ g i) → sumAt k f b ≡ sumAt k g b
 unfolding sumAt

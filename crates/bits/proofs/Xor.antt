@@ -2,11 +2,12 @@
 -- Assumes nothing.
 use mathlib.Core.Path.{_≡_, refl, sym, ap, ap₂, _∙_}
 use mathlib.Core.Logic.{_⊎_, inl, inr}
-use Prim.Native.Nat.{ℕ, zero, suc, _+_, _*_, _/_, _%_, _<_, _≤_}
-use native.Mathlib.Nat.{mod-lt, zero-lt-suc}
+use Prim.Native.Nat.{ℕ, zero, suc, _+_, _*_, _/_, _%_, _^_, _<_, _≤_, min}
+use native.Mathlib.Nat.{mod-lt, zero-lt-suc, add-zero, min-zero, min-le-left, lt-of-le-of-lt}
 use native.Mathlib.Omega.{arith}
 use lib.Arith.{bin-ind, digits-div, digits-mod}
-use lib.Bits.{bitAnd, bitOr, bitXor, differ, xor-step, xor-comm, xor-self, xor-zero-r, xor-block, or-add-and, and-le-l, and-le-r}
+use lib.Pow.{pow-pos}
+use lib.Bits.{bitAnd, bitOr, bitXor, differ, and-step, xor-step, xor-comm, xor-self, xor-zero-r, xor-block, xor-mod, or-add-and, and-shr, and-le-l, and-le-r}
 
 two-pos : zero < 2
 two-pos = zero-lt-suc 1
@@ -77,6 +78,36 @@ xor-zero-eq a b e = sym (xor-cancel-r a b) ∙ ap (λ (x : ℕ). bitXor x b) e
 -- it passes under one more bit
 pub xor-double : (a b x y : ℕ) → x < 2 → y < 2 → bitXor (a * 2 + x) (b * 2 + y) ≡ bitXor a b * 2 + bitXor x y
 xor-double a b x y hx hy = xor-block 1 a b x y hx hy
+
+-- it passes under a shift in a word of w bits, and under a mask
+pub xor-shl : (a b k w : ℕ) → bitXor a b * 2 ^ k % 2 ^ w ≡ bitXor (a * 2 ^ k % 2 ^ w) (b * 2 ^ k % 2 ^ w)
+xor-shl a b k w =
+    ap (λ (x : ℕ). x % 2 ^ w) (sym (simp add-zero at (xor-block k a b 0 0 (pow-pos k) (pow-pos k)))) ∙ xor-mod (a * 2 ^ k) (b * 2 ^ k) w
+
+and-odd : (a b : ℕ) → bitAnd a b % 2 ≡ min (a % 2) (b % 2)
+and-odd a b =
+    ap (λ (x : ℕ). x % 2) (and-step a b) ∙ digits-mod (bitAnd (a / 2) (b / 2)) (lt-of-le-of-lt (min-le-left (a % 2) (b % 2)) (mod-lt a two-pos))
+
+min-differ : (x y m : ℕ) → x < 2 → y < 2 → m < 2 → min (differ x y) m ≡ differ (min x m) (min y m)
+min-differ x y zero hx hy hm = min-zero (differ x y) ∙ sym (ap₂ differ (min-zero x) (min-zero y))
+min-differ zero y (suc zero) hx hy hm = refl
+min-differ (suc zero) zero (suc zero) hx hy hm = refl
+min-differ (suc zero) (suc zero) (suc zero) hx hy hm = refl
+min-differ (suc zero) (suc (suc y)) (suc zero) hx hy hm = omega arith
+min-differ (suc (suc x)) y (suc zero) hx hy hm = omega arith
+min-differ x y (suc (suc m)) hx hy hm = omega arith
+
+pub and-xor : (a b m : ℕ) → bitAnd (bitXor a b) m ≡ bitXor (bitAnd a m) (bitAnd b m)
+and-xor a =
+    bin-ind (λ (n : ℕ). (b m : ℕ) → bitAnd (bitXor n b) m ≡ bitXor (bitAnd n m) (bitAnd b m)) (λ b m. refl)
+    (λ n ih b m.
+    and-step (bitXor n b) m
+    ∙ ap₂ (λ (x y : ℕ). x * 2 + y)
+    (ap (λ (x : ℕ). bitAnd x (m / 2)) (xor-half n b) ∙ ih (b / 2) (m / 2) ∙ sym (ap₂ bitXor (and-shr n m 1) (and-shr b m 1)))
+    (ap (λ (x : ℕ). min x (m % 2)) (xor-odd n b)
+    ∙ min-differ (n % 2) (b % 2) (m % 2) (mod-lt n two-pos) (mod-lt b two-pos) (mod-lt m two-pos)
+    ∙ sym (ap₂ differ (and-odd n m) (and-odd b m)))
+    ∙ sym (xor-step (bitAnd n m) (bitAnd b m))) a
 
 -- two numbers are at most what has every bit of both
 pub or-within : (a b : ℕ) → (a ≤ bitOr a b) × (b ≤ bitOr a b)

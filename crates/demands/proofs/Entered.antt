@@ -9,7 +9,7 @@ use native.Mathlib.Omega.{arith}
 use lib.ListN.{length}
 use borrow.Author.Tests.{eq-eqb}
 use Rattle.pilots.specs.definitions.Pilots.{locks}
-use Rattle.framing.specs.definitions.Call.{base}
+use Rattle.framing.specs.definitions.Places.{base}
 use Rattle.framing.specs.definitions.Receive.{receivedFlags, Receives}
 use Rattle.framing.proofs.Receiving.{all-lengths, done, flags-length}
 use Rattle.account.specs.declared.Account.{Account}

@@ -11,7 +11,7 @@ use lib.Dec.{eqb}
 use lib.ListN.{length, take, drop, replicate, length-replicate}
 use borrow.Author.Tests.{ne-eqb}
 use Rattle.bits.specs.definitions.Call.{after}
-use Rattle.framing.specs.definitions.Call.{base}
+use Rattle.framing.specs.definitions.Places.{base}
 use Rattle.framing.specs.definitions.Receive.{receivedStore, receivedLanes, receivedFlags, receiveNumber, Receives}
 use Rattle.account.specs.declared.Account.{Account}
 use Rattle.account.specs.declared.Entry.{Entry}

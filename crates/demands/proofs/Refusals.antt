@@ -13,9 +13,9 @@ use lib.ListN.{length, getD}
 use borrow.Author.Tests.{ltb-true, ltb-false, leb-true, leb-false, eqb-true, eqb-false, lt-ltb, le-ltb, le-leb, lt-leb, eq-eqb, ne-eqb}
 use Rattle.bits.specs.definitions.Bits.{count}
 use Rattle.bits.proofs.Count.{count-cong}
+use Rattle.bits.proofs.Calls.{by-test, kept}
 use Rattle.pilots.specs.definitions.Table5.{pilots}
 use Rattle.pilots.specs.definitions.Pilots.{met, wrongPilots, locks}
-use Rattle.bits.specs.definitions.Call.{after}
 use Rattle.framing.proofs.Sending
 use Rattle.framing.proofs.Receiving
 use Rattle.account.specs.declared.Account.{Account}
@@ -31,16 +31,7 @@ use Rattle.capture.proofs.Found.{Stands, stands}
 use Rattle.demands.specs.definitions.Refusals.{Above}
 use Rattle.demands.specs.statements.Refusals.{SendRefusals, ReceiveRefusals, RecordRefusals, EntryRefusals, Refusals}
 
--- by whether a test holds
-by-test : {A G : Type 0} → Dec A → ((A → ⊥) → G) → (A → G) → G
-by-test (no h) f t = f h
-by-test (yes h) f t = t h
-
 -- ---- sending and receiving
-
--- what a refused call leaves
-kept : (r n : ℕ) (new old out : List ℕ) → r ≡ n → out ≡ after n new old → r ≢ 0 → out ≡ old
-kept r n new old out e o z = o ∙ rw (ne-eqb n 0 (λ m. z (e ∙ m))) refl
 
 pub send-refusals : SendRefusals
 send-refusals ex a s o r s′ o′ C = (

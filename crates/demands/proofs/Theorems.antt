@@ -6,10 +6,10 @@ use Rattle.decoder.proofs.Theorems.{mends-two, flagged-exactly, smallest-distan
 use Rattle.account.proofs.Kept.{kept-from-order}
 use Rattle.traffic.proofs.Signal.{prbs31, direct-state}
 use Rattle.traffic.proofs.Frames.{frame-from, one-after-the-other, one-sequence, traffic-exists, top-bit}
-use Rattle.traffic.proofs.Counts.{what-is-compared, counts-exactly}
+use Rattle.traffic.proofs.Counts.{what-is-compared, counts-exactly, checks-exist}
 use Rattle.traffic.proofs.Refusals.{frame-refusals, next-refusals, check-refusals}
 use Rattle.traffic.proofs.Figures.{traffic-figures}
-use Rattle.framing.proofs.Calls.{base-places}
+use Rattle.framing.proofs.Places.{base-places}
 use Rattle.framing.proofs.Stream.{block-rule}
 use Rattle.framing.proofs.Figures.{bench-figures}
 use Rattle.demands.proofs.Refusals.{refusals}
@@ -87,6 +87,7 @@ demands =
       topBit = top-bit;
       compared = what-is-compared;
       countsExactly = counts-exactly;
+      checksExist = checks-exist;
       trafficReturns = traffic-returns;
       trafficHit = traffic-hit;
       wrongTest = wrong-test;

@@ -15,7 +15,7 @@ use Rattle.lanes.specs.private.Stream.{deinterleaved}
 use Rattle.lanes.proofs.Bytewise.{permuted-lt, lanes-lt}
 use Rattle.lanes.proofs.Stream.{stored-bit}
 use Rattle.symbols.specs.definitions.Frame.{arrived}
-use Rattle.framing.specs.definitions.Call.{base}
+use Rattle.framing.specs.definitions.Places.{base}
 use Rattle.framing.specs.definitions.Send.{sentFrame, Sends}
 use Rattle.framing.specs.definitions.Receive.{receiveNumber, Receives}
 use Rattle.framing.proofs.Sending.{frame-length, done}

@@ -1,4 +1,4 @@
-pub mod Calls
+pub mod Places
 pub mod Sending
 pub mod Receiving
 pub mod Stream

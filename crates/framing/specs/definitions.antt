@@ -1,4 +1,4 @@
-pub mod Call
+pub mod Places
 pub mod Send
 pub mod Receive
 pub mod Stream

@@ -1,3 +1,3 @@
-pub mod Call
+pub mod Places
 pub mod Stream
 pub mod Figures

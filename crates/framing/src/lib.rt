@@ -3,7 +3,7 @@ ghost use mathlib.Core.Path.{_≡_};
 ghost use lib.ListN.{length};
 ghost use Rattle.lanes.specs.definitions.Interleaver.{interleavedStore, deinterleavedFrame, deinterleavedStore};
 ghost use Rattle.lane_words.specs.definitions.LaneWords.{wordLanes};
-ghost use Rattle.framing.specs.definitions.Call.{base};
+ghost use Rattle.framing.specs.definitions.Places.{base};
 ghost use Rattle.framing.specs.definitions.Send.{sentFrame, Sends};
 ghost use Rattle.framing.specs.definitions.Receive.{receivedWords, receivedFlags, ReceivesWords, Receives};
 

@@ -1,8 +1,9 @@
 -- What the checker counts: lanes compared with lanes sent from the right bit on are compared with what was sent 36 blocks before.
--- `Compared` and `CountsExactly`.
+-- `Compared`, `CountsExactly`, `ChecksExist`.
 -- Assumes nothing.
 use mathlib.Core.Path.{_≡_, refl, sym, ap, ap₂, _∙_}
 use mathlib.Core.Bool.{not, _&&_}
+use mathlib.Core.Logic.{_≢_}
 use mathlib.Core.List.{List}
 use Prim.Native.Nat.{ℕ, zero, suc, _+_, _*_, _-_, _≤_, _<_}
 use native.Mathlib.Decide.{decLt}
@@ -11,6 +12,8 @@ use lib.Dec.{eqb, ltb}
 use lib.ListN.{length}
 use borrow.Author.Tests.{lt-ltb, le-ltb}
 use Rattle.bits.specs.definitions.Bits.{tabulate, bitAt, count}
+use Rattle.bits.specs.definitions.Call.{unless}
+use Rattle.bits.proofs.Calls.{passed, failed, left, written}
 use Rattle.bits.proofs.Count.{count-cong}
 use Rattle.bits.proofs.Tabulate.{tabulate-cong}
 use Rattle.lanes.specs.definitions.Stream.{streamBit}
@@ -18,11 +21,39 @@ use Rattle.lanes.proofs.Stream.{stream-cut}
 use Rattle.traffic.specs.definitions.Register.{seed, stateAfter, bitFrom, trafficBit}
 use Rattle.traffic.specs.definitions.Traffic.{placed, trafficFrom, Continues}
 use Rattle.traffic.specs.definitions.Checker.{wrongBit, wrongCounts, Checks}
-use Rattle.traffic.specs.private.Counting.{differs, FillOf, StartOf}
-use Rattle.traffic.specs.statements.Checker.{Compared, CountsExactly}
-use Rattle.traffic.proofs.Frames.{placed-later, from-placed, continues-left, checks-done, checks-left, stream-placed}
+use Rattle.traffic.specs.private.Counting.{differs, StartOf}
+use Rattle.traffic.specs.statements.Checker.{Compared, CountsExactly, ChecksExist}
+use Rattle.traffic.proofs.Frames.{placed-later, from-placed, continues-left, stream-placed}
+
+-- ---- a call of the checker: refused, done, and what it leaves
+
+pub checks-refused-lanes : (f : ℕ) (lanes c : List ℕ) → length lanes ≢ 5280 → Checks f lanes c 1 c
+checks-refused-lanes f lanes c h = let e = failed 5280 lanes 1 (unless 32 c 3 0) h in record { number = sym e; counts = sym (left _ 0 _ c e) }
+
+pub checks-refused-counts : (f : ℕ) (lanes c : List ℕ) → length lanes ≡ 5280 → length c ≢ 32 → Checks f lanes c 3 c
+checks-refused-counts f lanes c h h′ =
+    let e = passed 5280 lanes 1 (unless 32 c 3 0) h ∙ failed 32 c 3 0 h′ in
+    record { number = sym e; counts = sym (left _ 2 _ c e) }
+
+checks-done : (f : ℕ) (lanes c c′ : List ℕ) → length lanes ≡ 5280 → length c ≡ 32 → c′ ≡ wrongCounts f lanes → Checks f lanes c 0 c′
+checks-done f lanes c c′ h h′ q =
+    let e = passed 5280 lanes 1 (unless 32 c 3 0) h ∙ passed 32 c 3 0 h′ in
+    record { number = sym e; counts = q ∙ sym (written _ _ c e) }
+
+-- what a call left that was lent the right lengths
+pub checks-left : (f : ℕ) (lanes c : List ℕ) (r : ℕ) (c′ : List ℕ) → length lanes ≡ 5280 → length c ≡ 32 → Checks f lanes c r c′
+    → (r ≡ 0) × (c′ ≡ wrongCounts f lanes)
+checks-left f lanes c r c′ h h′ C =
+    let e = passed 5280 lanes 1 (unless 32 c 3 0) h ∙ passed 32 c 3 0 h′ in
+    (C .number ∙ e, C .counts ∙ written _ _ c e)
 
 -- ---- the checker's fill and start, by arithmetic
+
+-- so many bytes of each lane of recovered frame f are fill: all 165 of frame 0, three blocks of frame 1, and none of later ones
+pub record FillOf (f fill : ℕ) : Type 0 where
+  pub none : f ≡ 0 → fill ≡ 165
+  pub first : f ≡ 1 → fill ≡ 15
+  pub later : 1 < f → fill ≡ 0
 
 before-fill : (f fill i : ℕ) → FillOf f fill → i < 1320 → 1320 * f + i < 1440 → i < 8 * fill
 before-fill zero fill i F hi h = omega (arith, F .none refl)
@@ -33,8 +64,8 @@ before-fill (suc (suc f)) fill i F hi h = absurd (omega arith)
 behind-fill : (f fill i : ℕ) → FillOf f fill → i < 1320 → 1440 ≤ 1320 * f + i
     → (8 * fill ≤ i) × (10 * (132 * f - 144) + (i - 8 * fill) ≡ 1320 * f + i - 1440)
 behind-fill zero fill i F hi h = absurd (omega arith)
-behind-fill (suc zero) fill i F hi h = let e = F .first refl in (omega arith, omega arith)
-behind-fill (suc (suc f)) fill i F hi h = let e = F .later (omega arith) in (omega arith, omega arith)
+behind-fill (suc zero) fill i F hi h = let e = F .first refl in omega arith
+behind-fill (suc (suc f)) fill i F hi h = let e = F .later (omega arith) in omega arith
 
 start-is : (f start : ℕ) → StartOf f start → 320 * (132 * f - 144) ≡ start
 start-is zero start S = sym (S .first (omega arith))
@@ -102,3 +133,6 @@ counts-exactly n outs sent G back f hf long c r c′ C lent =
     same p i hp hi =
         ap₂ (λ (x y : ℕ). not (ltb (1320 * f + i) 1440) && not (eqb x y)) (stream-cut back f p i hi)
         (sym (stream-placed n outs sent G p (1320 * f + i - 1440) hp (omega arith)))
+
+pub checks-exist : ChecksExist
+checks-exist f lanes c = (_, _, record { number = refl; counts = refl })

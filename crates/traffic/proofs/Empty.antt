@@ -15,7 +15,8 @@ use Rattle.traffic.specs.definitions.Register.{entering, nextState, stat
 use Rattle.traffic.specs.definitions.Traffic.{placed, trafficFrame, Continues, Generated}
 use Rattle.traffic.specs.definitions.Checker.{wrongBit, wrongCounts, Checks}
 use Rattle.traffic.specs.definitions.Figures.{stateFigures}
-use Rattle.traffic.proofs.Frames.{placed-frame, frame-placed, generates-frame, continues-left, checks-left}
+use Rattle.traffic.proofs.Frames.{placed-frame, frame-placed, generates-frame, continues-left}
+use Rattle.traffic.proofs.Counts.{checks-left}
 use Rattle.traffic.proofs.Figures.{traffic-figures}
 
 -- lanes of zeros

@@ -14,7 +14,6 @@ use Rattle.lanes.specs.definitions.Stream.{streamBit}
 use Rattle.lanes.proofs.Bytewise.{frame-bit}
 use Rattle.traffic.specs.definitions.Register.{stateFrom, seed, stateAfter, sentBit, bitFrom, trafficBit}
 use Rattle.traffic.specs.definitions.Traffic.{placed, frameBits, trafficFrom, trafficFrame, Generates, Continues, Generated}
-use Rattle.traffic.specs.definitions.Checker.{wrongCounts, Checks}
 use Rattle.traffic.specs.statements.Traffic.{FrameFrom, OneAfterTheOther, OneSequence, TrafficExists, TopBit}
 use Rattle.traffic.proofs.Register.{sent-lt, from-add, from-mod, bit-mod}
 
@@ -61,10 +60,7 @@ frame-placed f = frame-bit (λ p i. placed trafficBit p (1320 * f + i)) (λ p i.
 
 -- ---- calls
 
-pub generates-refused : (f : ℕ) (o : List ℕ) → length o ≢ 5280 → Generates f o 3 o
-generates-refused f o h = let e = failed 5280 o 3 0 h in record { number = sym e; output = sym (left _ 2 _ o e) }
-
-pub generates-done : (f : ℕ) (o o′ : List ℕ) → length o ≡ 5280 → o′ ≡ trafficFrame f → Generates f o 0 o′
+generates-done : (f : ℕ) (o o′ : List ℕ) → length o ≡ 5280 → o′ ≡ trafficFrame f → Generates f o 0 o′
 generates-done f o o′ h q = let e = passed 5280 o 3 0 h in record { number = sym e; output = q ∙ sym (written _ _ o e) }
 
 -- and the other way: a call that answered 0 left the frame
@@ -90,26 +86,6 @@ pub continues-left : (s : ℕ) (o : List ℕ) (r s′ : ℕ) (o′ : List ℕ) �
 continues-left s o r s′ o′ h C =
     let e = passed 5280 o 3 0 h in
     (C .number ∙ e, C .state ∙ written _ _ s e, C .output ∙ written _ _ o e)
-
-pub checks-refused-lanes : (f : ℕ) (lanes c : List ℕ) → length lanes ≢ 5280 → Checks f lanes c 1 c
-checks-refused-lanes f lanes c h = let e = failed 5280 lanes 1 (unless 32 c 3 0) h in record { number = sym e; counts = sym (left _ 0 _ c e) }
-
-pub checks-refused-counts : (f : ℕ) (lanes c : List ℕ) → length lanes ≡ 5280 → length c ≢ 32 → Checks f lanes c 3 c
-checks-refused-counts f lanes c h h′ =
-    let e = passed 5280 lanes 1 (unless 32 c 3 0) h ∙ failed 32 c 3 0 h′ in
-    record { number = sym e; counts = sym (left _ 2 _ c e) }
-
-pub checks-done : (f : ℕ) (lanes c c′ : List ℕ) → length lanes ≡ 5280 → length c ≡ 32 → c′ ≡ wrongCounts f lanes → Checks f lanes c 0 c′
-checks-done f lanes c c′ h h′ q =
-    let e = passed 5280 lanes 1 (unless 32 c 3 0) h ∙ passed 32 c 3 0 h′ in
-    record { number = sym e; counts = q ∙ sym (written _ _ c e) }
-
--- what a call left that was lent the right lengths
-pub checks-left : (f : ℕ) (lanes c : List ℕ) (r : ℕ) (c′ : List ℕ) → length lanes ≡ 5280 → length c ≡ 32 → Checks f lanes c r c′
-    → (r ≡ 0) × (c′ ≡ wrongCounts f lanes)
-checks-left f lanes c r c′ h h′ C =
-    let e = passed 5280 lanes 1 (unless 32 c 3 0) h ∙ passed 32 c 3 0 h′ in
-    (C .number ∙ e, C .counts ∙ written _ _ c e)
 
 -- ---- runs of calls
 

@@ -42,14 +42,14 @@ rule =
 abbrev pub termsOf : ℕ → ℕ
 termsOf a = bitXor a (a / 2 ^ 28)
 
-terms-xor : (a b : ℕ) → termsOf (bitXor a b) ≡ bitXor (termsOf a) (termsOf b)
+pub terms-xor : (a b : ℕ) → termsOf (bitXor a b) ≡ bitXor (termsOf a) (termsOf b)
 terms-xor a b = ap (bitXor (bitXor a b)) (xor-shr a b 28) ∙ xor-four a b (a / 2 ^ 28) (b / 2 ^ 28)
 
 pub terms-lt : (a : ℕ) → a < 2 ^ 31 → termsOf a < 2 ^ 31
 terms-lt a h = xor-lt 31 a (a / 2 ^ 28) h (omega (arith, shr-le a 28))
 
 -- the same the other way
-terms-back : (a : ℕ) → a < 2 ^ 31 → termsOf (termsOf a) ≡ a
+pub terms-back : (a : ℕ) → a < 2 ^ 31 → termsOf (termsOf a) ≡ a
 terms-back a h =
     let none : a / 2 ^ 28 / 2 ^ 28 ≡ 0 = omega arith in
     ap (bitXor (termsOf a)) (xor-shr a (a / 2 ^ 28) 28 ∙ ap (bitXor (a / 2 ^ 28)) none ∙ xor-zero-r (a / 2 ^ 28)) ∙ xor-cancel-r a (a / 2 ^ 28)
@@ -152,10 +152,3 @@ states-at s {x} {y} i h ex ey l =
 -- the sum of those that a's terms pick
 pub as-far : (a s : ℕ) {sum : ℕ} → s < 2 ^ 31 → sum ≡ sumAt 31 (stateFrom s) (termsOf a) → AsFar a s sum
 as-far a s h e = record { far = λ n is. e ∙ ap (λ (x : ℕ). sumAt 31 (stateFrom s) (termsOf x)) is ∙ far s h n }
-
--- twice as far, and one more where it is odd
-pub twice-far : (n : ℕ) {a r : ℕ} → a ≡ stateFrom 1 (n / 2) → AsFar a a r → stateFrom r (n % 2) ≡ stateFrom 1 n
-twice-far n {a} {r} e F =
-    let whole : n / 2 + n / 2 + n % 2 ≡ n = omega arith in
-    ap (λ (x : ℕ). stateFrom x (n % 2)) (F .far (n / 2) e ∙ ap (λ (x : ℕ). stateFrom x (n / 2)) e ∙ sym (from-add 1 (n / 2) (n / 2)))
-    ∙ sym (from-add 1 (n / 2 + n / 2) (n % 2)) ∙ ap (stateFrom 1) whole

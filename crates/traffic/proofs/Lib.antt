@@ -1,6 +1,7 @@
 pub mod Register
 pub mod Signal
 pub mod Jumping
+pub mod Squares
 pub mod Windows
 pub mod Stream
 pub mod Turning

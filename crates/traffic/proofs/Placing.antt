@@ -38,7 +38,7 @@ module _ (words : List ℕ) (fits : (k : ℕ) → getD words k 0 < 2 ^ 64) where
           rw (d, r)
 
   -- 64 bits from bit r of word k on
-  pub window-at : (k r : ℕ) → r < 64 → (getD words k 0 * 2 ^ 64 + getD words (k + 1) 0) / 2 ^ (64 - r) % 2 ^ 64 ≡ windowAt words (64 * k + r)
+  window-at : (k r : ℕ) → r < 64 → (getD words k 0 * 2 ^ 64 + getD words (k + 1) 0) / 2 ^ (64 - r) % 2 ^ 64 ≡ windowAt words (64 * k + r)
   unfolding windowAt
   window-at k r h =
       ap₂ (λ (x y : ℕ). (x * 2 ^ 64 + y) / 2 ^ (64 - r) % 2 ^ 64) (word-number k)
@@ -94,7 +94,7 @@ placed-step {words} {groups} {l} {l′} {i} P g B =
 
 module _ {s : ℕ} {words : List ℕ} where
   -- the words hold the stream's bits, so 33 blocks of every lane are its frame
-  pub stream-bit : {i : ℕ} → Streams s 660 words → i < 42240 → wordsBit words i ≡ bitFrom s i
+  stream-bit : {i : ℕ} → Streams s 660 words → i < 42240 → wordsBit words i ≡ bitFrom s i
   unfolding wordsBit streamWord
   stream-bit {i} S h =
       let e : 64 * (i / 64) + i % 64 ≡ i = omega arith in

@@ -1,8 +1,8 @@
--- The register's states: they go on from one another, they are linear, and which bits stand in them. `Prbs31` and `DirectState`.
+-- The register's states: they go on from one another, they are linear, and which bits stand in them.
 -- Assumes nothing.
 use mathlib.Core.Path.{_≡_, refl, sym, ap, ap₂, _∙_}
 use Prim.Native.Nat.{ℕ, zero, suc, _+_, _*_, _-_, _/_, _%_, _^_, _≤_, _<_}
-use native.Mathlib.Nat.{add-zero, add-suc, pow-zero, pow-suc, mod-lt, mod-one, mod-eq-of-lt, mul-mod-left, mul-assoc, mul-add-div-right, div-one}
+use native.Mathlib.Nat.{add-zero, add-suc, pow-suc, mod-lt, mod-one, mod-eq-of-lt, mul-mod-left, mul-assoc, mul-add-div-right, div-one}
 use native.Mathlib.Omega.{arith}
 use lib.Arith.{digits-div, digits-mod, mod-mul}
 use lib.Dec.{lit<}
@@ -21,7 +21,7 @@ pub sent-lt : (s : ℕ) → sentBit s < 2
 unfolding sentBit
 sent-lt s = omega arith
 
-pub next-lt : (s : ℕ) → nextState s < 2 ^ 31
+next-lt : (s : ℕ) → nextState s < 2 ^ 31
 unfolding nextState
 next-lt s = omega (arith, entering-lt s)
 
@@ -86,7 +86,7 @@ from-xor a b (suc n) = ap nextState (from-xor a b n) ∙ next-xor (stateFrom a n
 -- ---- which bits stand in a state
 
 -- the n bits that entered last
-pub from-low : (s n : ℕ) → n ≤ 31 → stateFrom s n % 2 ^ n ≡ number n (λ i. entering (stateFrom s i))
+from-low : (s n : ℕ) → n ≤ 31 → stateFrom s n % 2 ^ n ≡ number n (λ i. entering (stateFrom s i))
 unfolding stateFrom value nextState
 from-low s zero h = mod-one (stateFrom s zero)
 from-low s (suc n) h =
@@ -97,7 +97,7 @@ from-low s (suc n) h =
     ∙ ap (λ (x : ℕ). x * 2 + entering t) (ap (λ (m : ℕ). t % 2 ^ m % 2 ^ n) k ∙ mod-mod-pow t (30 - n) n ∙ from-low s n (omega arith))
 
 -- and above them those of the state before
-pub from-high : (s n : ℕ) → s < 2 ^ 31 → n ≤ 31 → stateFrom s n / 2 ^ n ≡ s % 2 ^ (31 - n)
+from-high : (s n : ℕ) → s < 2 ^ 31 → n ≤ 31 → stateFrom s n / 2 ^ n ≡ s % 2 ^ (31 - n)
 unfolding stateFrom nextState
 from-high s zero h l = div-one s ∙ sym (mod-eq-of-lt h)
 from-high s (suc n) h l =

@@ -1,7 +1,6 @@
 -- The stream's words: a word by the states that it takes, and the rule by which it follows from two before it; and loops that fill a stream.
 -- Assumes nothing.
 use mathlib.Core.Path.{_≡_, refl, sym, ap, ap₂, _∙_}
-use mathlib.Core.Logic.{_⊎_, inl, inr}
 use mathlib.Core.List.{List}
 use Prim.Native.Nat.{ℕ, zero, suc, _+_, _*_, _-_, _/_, _%_, _^_, _≤_, _<_}
 use native.Mathlib.Nat.{not-suc-le-zero}
@@ -11,7 +10,7 @@ use lib.Dec.{lit<, lit≤}
 use lib.ListN.{length, getD, set, length-set}
 use lib.Seq.{getD-set-same, getD-set-other}
 use lib.Bits.{bitXor, differ}
-use Rattle.bits.specs.definitions.Bits.{value, number}
+use Rattle.bits.specs.definitions.Bits.{number}
 use Rattle.bits.proofs.Value.{value-cong, value-append, number-inverted, number-xor}
 use Rattle.bits.proofs.Xor.{xor-assoc, xor-cancel, differ-lt}
 use Rattle.traffic.specs.definitions.Register.{entering, stateFrom, sentBit, bitFrom}
@@ -27,8 +26,8 @@ abbrev pub Rule : ℕ → Type 0
 Rule d = (s : ℕ) → s < 2 ^ 31 → stateFrom s (31 * d) ≡ bitXor (stateFrom s (3 * d)) s
 
 -- what holds at a distance holds at twice the distance
-doubled : (d : ℕ) → Rule d → Rule (2 * d)
-doubled d R s h =
+rule-twice : (d : ℕ) → Rule d → Rule (2 * d)
+rule-twice d R s h =
     let e : 31 * (2 * d) ≡ 31 * d + 31 * d = omega arith in
     let f : 3 * d + 3 * d ≡ 3 * (2 * d) = omega arith in
     let t = stateFrom s (3 * d) in
@@ -38,13 +37,13 @@ doubled d R s h =
     ∙ ap (λ (x : ℕ). bitXor x s) (sym (from-add s (3 * d) (3 * d)) ∙ ap (stateFrom s) f)
 
 rule-4 : Rule 4
-rule-4 = doubled 2 (doubled 1 rule)
+rule-4 = rule-twice 2 (rule-twice 1 rule)
 
 pub rule-64 : Rule 64
-rule-64 = doubled 32 (doubled 16 (doubled 8 (doubled 4 rule-4)))
+rule-64 = rule-twice 32 (rule-twice 16 (rule-twice 8 (rule-twice 4 rule-4)))
 
 pub rule-128 : Rule 128
-rule-128 = doubled 64 rule-64
+rule-128 = rule-twice 64 rule-64
 
 -- so bits that are sent follow from two before them
 sums-inverted : (x y : ℕ) → x < 2 → y < 2 → 1 - bitXor x y ≡ 1 - differ (1 - x) (1 - y)
@@ -106,7 +105,7 @@ second-word s {a} {b} {c} ea eb ec =
 -- ---- loops that fill a stream
 
 -- one word more
-pub stream-more : {s n : ℕ} {words : List ℕ} {v : ℕ} → Streams s n words → n < length words → v ≡ streamWord s n → Streams s (n + 1) (set words n v)
+stream-more : {s n : ℕ} {words : List ℕ} {v : ℕ} → Streams s n words → n < length words → v ≡ streamWord s n → Streams s (n + 1) (set words n v)
 stream-more {s} {n} {words} {v} S h e = record { word = λ k l. at k (ℕ-discrete k n) l }
   where
     at : (k : ℕ) → Dec (k ≡ n) → k < n + 1 → getD (set words n v) k 0 ≡ streamWord s k

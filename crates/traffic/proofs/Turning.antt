@@ -40,7 +40,7 @@ chosen-bit x y m q =
 pub upper-law : (a b n mask : ℕ) → Upper a b n mask (bitXor b (bitAnd (bitXor (a * 2 ^ n % 2 ^ 64) b) mask))
 upper-law a b n mask =
     record {
-      rest = λ q h.
+      bits = λ q h.
           ap (λ (x : ℕ). bitOf 64 (bitXor b (bitAnd x mask)) q) (xor-comm (a * 2 ^ n % 2 ^ 64) b) ∙ chosen-bit b (a * 2 ^ n % 2 ^ 64) mask q
           ∙ ap (λ (x : ℕ). cond (eqb (bitOf 64 mask q) 1) x (bitOf 64 b q)) (bit-shl 64 a n q h);
     }
@@ -101,8 +101,8 @@ module _ {a b n mask l u : ℕ} (L : Lower a b n mask l) (U : Upper a b n mask u
       bits : (s t : ℕ) → bitOf 64 (two l u s) (two q (q + n) t) ≡ bitOf 64 (two a b t) (two q (q + n) s)
       bits zero zero = first (decLt q n)
       bits zero (suc t) = let e : q + n - n ≡ q = omega arith in rw (e, A .at) at (L .rest (q + n) (omega arith) (omega arith))
-      bits (suc s) zero = rw (A .at) at (U .rest q (omega arith))
-      bits (suc s) (suc t) = rw (A .behind) at (U .rest (q + n) h)
+      bits (suc s) zero = rw (A .at) at (U .bits q (omega arith))
+      bits (suc s) (suc t) = rw (A .behind) at (U .bits (q + n) h)
 
 -- the masks, and their bits
 abbrev half : ℕ

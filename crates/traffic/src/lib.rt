@@ -8,27 +8,28 @@ ghost use Rattle.bits.specs.definitions.Bits.{tabulate, count};
 ghost use Rattle.traffic.specs.definitions.Register.{stateFrom, stateAfter};
 ghost use Rattle.traffic.specs.definitions.Traffic.{trafficFrom, Generates, Continues};
 ghost use Rattle.traffic.specs.definitions.Checker.{Checks};
-ghost use Rattle.traffic.specs.private.Stream.{streamWord, Streams, Grows, AsFar};
+ghost use Rattle.traffic.specs.private.Stream.{streamWord, Streams, Grows, AsFar, Doubled, spreadOf, reducedOf};
 ghost use Rattle.traffic.specs.private.Lanes.{windowAt, groupsOf, Lower, Upper, Turned, BlockPut, BlocksPut, Placed};
-ghost use Rattle.traffic.specs.private.Counting.{differing, differs, FillOf, StartOf};
+ghost use Rattle.traffic.specs.private.Counting.{differing, differs, StartOf};
 
 // The state before the first bit: all ones.
 const SEED: u64 = bits::TWO_31 - 1;
 
 // 64 ones.
-const ONES: u64 = 18446744073709551615;
+const ONES: u64 = 0xFFFFFFFFFFFFFFFF;
 
-// The first half of a group, and the first and the third of its symbols.
+// The first half of a group.
 const HALF: u64 = 0xFFFFF00000000000;
 
+// The first and the third symbol of a group.
 const EVEN: u64 = 0xFFC00FFC00000000;
 
-// Four numbers.
-pub struct Four {
-    pub a: u64,
-    pub b: u64,
-    pub c: u64,
-    pub d: u64,
+// A block of each of four lanes.
+struct Four {
+    a: u64,
+    b: u64,
+    c: u64,
+    d: u64,
 }
 
 // The state n bits later. 28 bits do not depend on one another: each enters by bits that are there.
@@ -40,8 +41,8 @@ fn ahead(s: u64, n: u64) -> u64
     (s << n) % bits::TWO_31 + entering % (1 << n)
 }
 
-// The state that is as many bits after s as a is after 1. A state after 1 is a sum of the first 31 of them, which are 1, 2, 4 to 2^27, 2^28 + 1, 2^29 + 2 and
-// 2^30 + 4; the state as far after s is the same sum of the first 31 after s, which stand in one number.
+// The state that is as many bits after s as a is after 1. A state after 1 is a sum, an exclusive or, of the first 31 of them, which are 1, 2, 4 to 2^27,
+// 2^28 + 1, 2^29 + 2 and 2^30 + 4; the state as far after s is the same sum of the first 31 after s, which stand in one number.
 fn as_far(a: u64, s: u64) -> u64
     requires { ⌜ (a < 2 ^ 31) × (s < 2 ^ 31) ⌝ }
     ensures { λ r. ⌜ AsFar a s r × (r < 2 ^ 31) ⌝ }
@@ -57,7 +58,37 @@ fn as_far(a: u64, s: u64) -> u64
     sum
 }
 
-// The state so many bits after the state 1, by halving their number: as far again as half of them, and one more where it is odd. A few are one step.
+// A number's bits at every other place, for up to 32 of them: the square of a sum is the sum of the squares.
+fn spread(terms: u64) -> u64
+    ensures { λ r. ⌜ r ≡ spreadOf terms ⌝ }
+{
+    let a = (terms ^ (terms << 16)) & 0x0000FFFF0000FFFF;
+    let b = (a ^ (a << 8)) & 0x00FF00FF00FF00FF;
+    let c = (b ^ (b << 4)) & 0x0F0F0F0F0F0F0F0F;
+    let d = (c ^ (c << 2)) & 0x3333333333333333;
+    (d ^ (d << 1)) & 0x5555555555555555
+}
+
+// The same sum with fewer terms: the state 31 bits on is the sum of the one three bits on and this one.
+fn reduced(terms: u64) -> u64
+    ensures { λ r. ⌜ r ≡ reducedOf terms ⌝ }
+{
+    let above = terms >> 31;
+    (terms % bits::TWO_31) ^ above ^ (above << 3)
+}
+
+// The state twice as many bits after 1 as a is.
+fn doubled(a: u64) -> u64
+    requires { ⌜ a < 2 ^ 31 ⌝ }
+    ensures { λ r. ⌜ Doubled a r ⌝ }
+{
+    let terms = a ^ (a >> 28);
+    let square = reduced(reduced(spread(terms)));
+    square ^ (square >> 28)
+}
+
+// The state so many bits after the state 1, by halving their number: twice as far as half of them, and one more where it is odd. Up
+// to 28 are one step.
 fn jump(bits: u64) -> u64
     ensures { λ r. ⌜ (r ≡ stateFrom 1 bits) × (r < 2 ^ 31) ⌝ }
 {
@@ -65,7 +96,7 @@ fn jump(bits: u64) -> u64
         return ahead(1, bits);
     }
     let half = jump(bits / 2);
-    let twice = as_far(half, half);
+    let twice = doubled(half);
     ahead(twice, bits % 2)
 }
 
@@ -128,7 +159,7 @@ fn grow(d: usize, from: usize, end: usize, words: &mut [u64])
 }
 
 // The stream of a frame from the state s on, and a word of no meaning behind it.
-fn fill_stream(s: u64, words: &mut [u64])
+fn write_stream(s: u64, words: &mut [u64])
     requires { ⌜ (s < 2 ^ 31) × (length (now words) ≡ 661) ⌝ }
     ensures { λ _. ⌜ Streams s 660 (now (words .exit)) ⌝ }
 {
@@ -165,7 +196,7 @@ fn read_groups(words: &[u64], i: usize, groups: &mut [u64])
     row_groups(words, 4 * i + 3, &mut groups[24..32]);
 }
 
-// a, where the mask has a bit n places before, gets b's bit from there.
+// a, with b's bits that the mask picks put n places further on.
 fn lower(a: u64, b: u64, n: u64, mask: u64) -> u64
     requires { ⌜ n < 64 ⌝ }
     ensures { λ r. ⌜ Lower a b n mask r ⌝ }
@@ -173,7 +204,7 @@ fn lower(a: u64, b: u64, n: u64, mask: u64) -> u64
     a ^ ((((a << n) ^ b) & mask) >> n)
 }
 
-// b, where the mask has a bit, gets a's bit from n places behind.
+// b, with a's bits from n places further on where the mask has a bit.
 fn upper(a: u64, b: u64, n: u64, mask: u64) -> u64
     requires { ⌜ n < 64 ⌝ }
     ensures { λ r. ⌜ Upper a b n mask r ⌝ }
@@ -251,7 +282,7 @@ fn generate(s: u64, lanes: &mut [u8]) -> u64
     ensures { λ r. ⌜ (r ≡ stateFrom s 42240) × (r < 2 ^ 31) × (now (lanes .exit) ≡ trafficFrom s) ⌝ }
 {
     let mut words = [0u64; 661];
-    fill_stream(s, &mut words);
+    write_stream(s, &mut words);
     write_lanes(&words, lanes);
     SEED - words[659] % bits::TWO_31
 }
@@ -283,9 +314,9 @@ fn differing(a: u8, b: u8) -> u32
     u8::count_ones(a ^ b)
 }
 
-// How many bits of lane p differ, what was sent beginning at byte `fill`.
+// How many bits of lane p differ from what was sent, which the lane holds from byte `fill` on; the bytes before it are not compared.
 fn count_lane(fill: usize, lanes: &[u8], sent: &[u8], p: usize) -> u32
-    requires { ⌜ (fill ≤ 165) × (length (now lanes) ≡ 5280) × (5280 ≤ length (now sent)) × (p < 32) ⌝ }
+    requires { ⌜ (fill ≤ 165) × (length (now lanes) ≡ 5280) × (length (now sent) ≡ 5280) × (p < 32) ⌝ }
     ensures { λ r. ⌜ r ≡ count (differs fill (now (lanes .entry)) (now (sent .entry)) p) 1320 ⌝ }
 {
     let mut n: u32 = 0;
@@ -300,7 +331,7 @@ fn count_lane(fill: usize, lanes: &[u8], sent: &[u8], p: usize) -> u32
 
 // The same of every lane.
 fn count_lanes(fill: usize, lanes: &[u8], sent: &[u8], wrong: &mut [u32])
-    requires { ⌜ (fill ≤ 165) × (length (now lanes) ≡ 5280) × (5280 ≤ length (now sent)) × (length (now wrong) ≡ 32) ⌝ }
+    requires { ⌜ (fill ≤ 165) × (length (now lanes) ≡ 5280) × (length (now sent) ≡ 5280) × (length (now wrong) ≡ 32) ⌝ }
     ensures { λ _. ⌜ now (wrong .exit) ≡ tabulate 32 (λ p. count (differs fill (now (lanes .entry)) (now (sent .entry)) p) 1320) ⌝ }
 {
     let mut p: usize = 0;
@@ -308,19 +339,6 @@ fn count_lanes(fill: usize, lanes: &[u8], sent: &[u8], wrong: &mut [u32])
         wrong[p] = count_lane(fill, lanes, sent, p);
         p += 1;
     }
-}
-
-// How many bytes of each lane of recovered frame f are fill.
-fn fill_of(f: u32) -> usize
-    ensures { λ r. ⌜ FillOf f r ⌝ }
-{
-    if f == 0 {
-        return 165;
-    }
-    if f == 1 {
-        return 15;
-    }
-    0
 }
 
 // The stream bit at which the lanes that recovered frame f holds begin.
@@ -333,8 +351,8 @@ fn start_of(f: u32) -> u64
     bits::wide32(f) * 42240 - 46080
 }
 
-// How many bits of each lane of recovered frame f are wrong; f counts from the fresh start. Later frames have no fill: where that is written out, the compiler
-// counts faster. Refused: 1, the lanes are not 5,280 bytes; 3, there are not 32 counts.
+// How many bits of each lane of recovered frame f are wrong; f counts from the fresh start. All of frame 0 is fill, and three blocks of frame 1; each fill is
+// written out, so that the compiler counts whole lanes faster. Refused: 1, the lanes are not 5,280 bytes; 3, there are not 32 counts.
 pub fn check(f: u32, lanes: &[u8], wrong: &mut [u32]) -> u32
     ensures { λ r. ⌜ Checks f (now (lanes .entry)) (now (wrong .entry)) r (now (wrong .exit)) ⌝ }
 {
@@ -347,10 +365,12 @@ pub fn check(f: u32, lanes: &[u8], wrong: &mut [u32]) -> u32
     let mut state = state_after(start_of(f));
     let mut sent = [0u8; 5280];
     next_frame(&mut state, &mut sent);
-    if f < 2 {
-        count_lanes(fill_of(f), lanes, &sent, wrong);
-        return 0;
+    if f > 1 {
+        count_lanes(0, lanes, &sent, wrong);
+    } else if f > 0 {
+        count_lanes(15, lanes, &sent, wrong);
+    } else {
+        count_lanes(165, lanes, &sent, wrong);
     }
-    count_lanes(0, lanes, &sent, wrong);
     0
 }

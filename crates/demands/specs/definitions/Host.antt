@@ -7,7 +7,7 @@ use mathlib.Core.List.{List, []}
 use Prim.Native.Nat.{ℕ, suc, _<_, _≤_}
 use lib.Dec.{eqb}
 use lib.ListN.{length, getD}
-use Rattle.framing.specs.definitions.Call.{base}
+use Rattle.framing.specs.definitions.Places.{base}
 use Rattle.framing.specs.definitions.Receive.{Receives}
 use Rattle.account.specs.declared.Account.{Account}
 use Rattle.account.specs.definitions.Account.{opened, lossEntered, verdict, verdictNumber}

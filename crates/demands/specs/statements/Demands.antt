@@ -5,10 +5,10 @@ use Rattle.decoder.specs.statements.Word.{MendsTwo, FlaggedExactly, SmallestDis
 use Rattle.account.specs.statements.Kept.{KeptFromOrder}
 use Rattle.traffic.specs.statements.Register.{Prbs31, DirectState}
 use Rattle.traffic.specs.statements.Traffic.{FrameFrom, OneAfterTheOther, OneSequence, TrafficExists, TopBit}
-use Rattle.traffic.specs.statements.Checker.{Compared, CountsExactly}
+use Rattle.traffic.specs.statements.Checker.{Compared, CountsExactly, ChecksExist}
 use Rattle.traffic.specs.statements.Refusals.{FrameRefusals, NextRefusals, CheckRefusals}
 use Rattle.traffic.specs.statements.Figures.{TrafficFigures}
-use Rattle.framing.specs.statements.Call.{BasePlaces}
+use Rattle.framing.specs.statements.Places.{BasePlaces}
 use Rattle.framing.specs.statements.Stream.{BlockRule}
 use Rattle.framing.specs.statements.Figures.{BenchFigures}
 use Rattle.demands.specs.statements.Refusals.{Refusals}
@@ -91,6 +91,7 @@ pub record Demands : Type 0 where
   -- bits are wrong; and that test traffic speaks for all lanes
   pub compared : Compared
   pub countsExactly : CountsExactly
+  pub checksExist : ChecksExist
   pub trafficReturns : TrafficReturns
   pub trafficHit : TrafficHit
   pub wrongTest : WrongTest

@@ -7,7 +7,7 @@ use mathlib.Core.Bool.{true}
 use mathlib.Core.List.{List}
 use Prim.Native.Nat.{ℕ, _+_, _*_, _≤_, _<_}
 use Rattle.lanes.specs.definitions.Permutation.{Places, named}
-use Rattle.framing.specs.definitions.Call.{base}
+use Rattle.framing.specs.definitions.Places.{base}
 use Rattle.demands.specs.definitions.Trial.{Trial, Accepted}
 use Rattle.demands.specs.definitions.ReedSolomon.{Labels, Spans, Labelled, carries, Has, heavyWords, wrongSymbols, Exceeded}
 

@@ -7,7 +7,7 @@ use mathlib.Core.List.{List}
 use Prim.Native.Nat.{ℕ, _^_, _<_}
 use lib.ListN.{length}
 use Rattle.lanes.specs.definitions.Permutation.{Places}
-use Rattle.framing.specs.definitions.Call.{base}
+use Rattle.framing.specs.definitions.Places.{base}
 use Rattle.framing.specs.definitions.Receive.{Receives}
 use Rattle.account.specs.declared.Account.{Account}
 use Rattle.bench.specs.definitions.Run.{entryOf}

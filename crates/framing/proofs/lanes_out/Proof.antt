@@ -5,7 +5,7 @@ use Prim.Native.Nat.{ℕ}
 use Rattle.bits.proofs.Filling.{copied-all}
 use Rattle.lanes.specs.definitions.Interleaver.{deinterleavedFrame, deinterleavedStore}
 use Rattle.lanes.proofs.Frames.{frame-deinterleaved}
-use Rattle.framing.specs.definitions.Call.{base}
+use Rattle.framing.specs.definitions.Places.{base}
 use borrow.Author.Needs.{needs}
 use Rattle.framing.proofs.lanes_out.Statement.{statement}
 use Rattle.framing.proofs.lanes_out.Tie as tie

@@ -1,5 +1,5 @@
 -- `framing::receive` meets its contract: a refusal from each test, and the outcome where all passed. Assumes nothing.
-use Rattle.framing.specs.definitions.Call.{base}
+use Rattle.framing.specs.definitions.Places.{base}
 use Rattle.framing.proofs.Receiving.{short-frame, short-store, short-lanes, short-flags, refused, without-lock, received}
 use borrow.Author.Needs.{needs}
 use Rattle.framing.proofs.receive.Statement.{statement}

@@ -1,5 +1,5 @@
 -- `framing::send` meets its contract: a refusal from each test, and the outcome where all passed. Assumes nothing.
-use Rattle.framing.specs.definitions.Call.{base}
+use Rattle.framing.specs.definitions.Places.{base}
 use Rattle.framing.proofs.Sending.{short-lanes, short-store, short-frame, all-lengths, refused, sent}
 use borrow.Author.Needs.{needs}
 use Rattle.framing.proofs.send.Statement.{statement}

@@ -3,7 +3,7 @@ use mathlib.Core.Path.{sym, ap, ap₂, _∙_}
 use lib.ListN.{length}
 use Rattle.bits.proofs.Filling.{copied-all}
 use Rattle.lanes.specs.definitions.Interleaver.{interleavedStore}
-use Rattle.framing.specs.definitions.Call.{base}
+use Rattle.framing.specs.definitions.Places.{base}
 use Rattle.framing.specs.definitions.Send.{sentFrame}
 use Rattle.framing.proofs.Sending.{store-length, frame-length}
 use borrow.Author.Needs.{needs}

@@ -9,7 +9,7 @@ use Rattle.lanes.specs.definitions.Permutation.{Lanes}
 use Rattle.lanes.specs.definitions.Stream.{interleaved}
 use Rattle.shuffle.specs.definitions.Shuffle.{place}
 use Rattle.symbols.specs.definitions.Mapping.{laneOf, upper, lower, payloadAt}
-use Rattle.framing.specs.definitions.Call.{base}
+use Rattle.framing.specs.definitions.Places.{base}
 
 -- a row by its number in 01: what the definitions give, and what is printed
 pub record Figure : Type 0 where

@@ -1,5 +1,5 @@
 -- `traffic::ahead` meets its contract: `ahead-law`. Assumes nothing.
-use mathlib.Core.Path.{_≡_, ap, ap₂, _∙_, subst, sym}
+use mathlib.Core.Path.{_≡_, ap₂, _∙_, subst, sym}
 use Prim.Native.Nat.{ℕ, _+_, _*_, _-_, _/_, _%_, _^_, _≤_, _<_}
 use native.Mathlib.Nat.{one-mul}
 use native.Mathlib.Omega.{arith}

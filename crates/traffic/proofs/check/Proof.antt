@@ -1,10 +1,8 @@
--- `traffic::check` meets its contract: `checks-counted`, over what was sent 36 blocks before. Assumes nothing.
-use mathlib.Core.Path.{refl}
+-- `traffic::check` meets its contract: `checks-counted`, with the fill of each branch. Assumes nothing.
 use Prim.Native.Nat.{ℕ}
 use native.Mathlib.Omega.{arith}
 use lib.ListN.{length-replicate}
-use Rattle.traffic.proofs.Frames.{checks-refused-lanes, checks-refused-counts}
-use Rattle.traffic.proofs.Counts.{checks-counted}
+use Rattle.traffic.proofs.Counts.{checks-refused-lanes, checks-refused-counts, checks-counted}
 use borrow.Author.Needs.{needs}
 use Rattle.traffic.proofs.check.Statement.{statement}
 use Rattle.traffic.proofs.check.Tie as tie
@@ -12,22 +10,29 @@ use Rattle.traffic.proofs.check.Tie as tie
 returns-3 : tie.Need-returns-3
 returns-3 c =
     let counted = c .before .before in
-    let filled = counted .before .before .before in
-    let sent = filled .before .before .before in
+    let sent = counted .before .before .before .before .before in
     let found = sent .before .before .before in
     let tests = found .before .before in
-    checks-counted _ _ _ (tests .before .if1 .left) (tests .if2 .left) (filled .fill-of .ensures) (found .before .start-of .ensures)
+    checks-counted _ _ _ (tests .before .if1 .left) (tests .if2 .left) (omega arith) (found .before .start-of .ensures)
     (found .state-after .ensures) (length-replicate {A = ℕ} 5280 0) (sent .next-frame .ensures) (counted .count-lanes .ensures)
 
 returns-4 : tie.Need-returns-4
 returns-4 c =
     let counted = c .before .before in
-    let sent = counted .before .before .before .before .before in
+    let sent = counted .before .before .before .before .before .before in
     let found = sent .before .before .before in
     let tests = found .before .before in
-    checks-counted _ _ _ (tests .before .if1 .left) (tests .if2 .left)
-    (record { most = omega arith; none = λ e. absurd (omega arith); first = λ e. absurd (omega arith); later = λ _. refl }) (found .before .start-of .ensures)
+    checks-counted _ _ _ (tests .before .if1 .left) (tests .if2 .left) (omega arith) (found .before .start-of .ensures)
     (found .state-after .ensures) (length-replicate {A = ℕ} 5280 0) (sent .next-frame .ensures) (counted .count-lanes2 .ensures)
+
+returns-5 : tie.Need-returns-5
+returns-5 c =
+    let counted = c .before .before in
+    let sent = counted .before .before .before .before .before .before in
+    let found = sent .before .before .before in
+    let tests = found .before .before in
+    checks-counted _ _ _ (tests .before .if1 .left) (tests .if2 .left) (omega arith) (found .before .start-of .ensures)
+    (found .state-after .ensures) (length-replicate {A = ℕ} 5280 0) (sent .next-frame .ensures) (counted .count-lanes3 .ensures)
 
 pub check-spec : {M : Type 1} → statement M
 check-spec =
@@ -39,12 +44,15 @@ check-spec =
     (λ c κs. search needs)
     (λ c. search needs)
     (λ c κs. search needs)
+    (λ c. search needs)
+    (λ c κs. search needs)
+    (λ c. search needs)
     (λ c κs. search needs)
     (λ c. search needs)
     (λ c κs. search needs)
     (λ c. search needs)
     returns-3
     (λ c. search needs)
-    (λ c κs. search needs)
+    returns-4
     (λ c. search needs)
-    returns-4)
+    returns-5)

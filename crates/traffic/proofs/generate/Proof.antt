@@ -9,7 +9,7 @@ returns : tie.Need-returns
 returns c =
     let filled = c .before .before .before .before .before .before in
     let start = filled .before .before .before in
-    let stream = filled .fill-stream .ensures in
+    let stream = filled .write-stream .ensures in
     (last-state (start .pre .0) stream, omega arith, lanes-frame (c .before .before .write-lanes .ensures) stream)
 
 pub generate-spec : {M : Type 1} → statement M

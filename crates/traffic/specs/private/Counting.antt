@@ -15,13 +15,6 @@ differing a b = count (λ q. not (eqb (bitOf 8 a q) (bitOf 8 b q))) 8
 unfoldable pub differs : ℕ → (lanes sent : List ℕ) → ℕ → ℕ → Bool
 differs fill lanes sent p i = not (ltb i (8 * fill)) && not (eqb (bitAt lanes (1320 * p + i)) (bitAt sent (1320 * p + (i - 8 * fill))))
 
--- so many bytes of each lane of recovered frame f are fill: all 165 of frame 0, and three blocks of frame 1
-pub record FillOf (f fill : ℕ) : Type 0 where
-  pub most : fill ≤ 165
-  pub none : f ≡ 0 → fill ≡ 165
-  pub first : f ≡ 1 → fill ≡ 15
-  pub later : 1 < f → fill ≡ 0
-
 -- what recovered frame f holds was sent from this bit of the stream on: 36 blocks of 32 lanes before the frame, or from the beginning
 pub record StartOf (f start : ℕ) : Type 0 where
   pub first : f ≤ 1 → start ≡ 0

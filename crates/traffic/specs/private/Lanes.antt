@@ -28,9 +28,9 @@ pub record Lower (a b n mask r : ℕ) : Type 0 where
   pub first : (q : ℕ) → q < n → bitOf 64 r q ≡ bitOf 64 a q
   pub rest : (q : ℕ) → n ≤ q → q < 64 → bitOf 64 r q ≡ cond (eqb (bitOf 64 mask (q - n)) 1) (bitOf 64 b (q - n)) (bitOf 64 a q)
 
--- bit q of b or, where the mask has bit q, bit q + n of a
+-- bit q of b or, where the mask has bit q, bit q + n of a; for bits that have one n behind them
 pub record Upper (a b n mask r : ℕ) : Type 0 where
-  pub rest : (q : ℕ) → q + n < 64 → bitOf 64 r q ≡ cond (eqb (bitOf 64 mask q) 1) (bitOf 64 a (q + n)) (bitOf 64 b q)
+  pub bits : (q : ℕ) → q + n < 64 → bitOf 64 r q ≡ cond (eqb (bitOf 64 mask q) 1) (bitOf 64 a (q + n)) (bitOf 64 b q)
 
 -- the first, the second, the third or the fourth of four
 abbrev pub pick : ℕ → ℕ → ℕ → ℕ → ℕ → ℕ
@@ -39,7 +39,7 @@ pick a b c d (suc zero) = b
 pick a b c d (suc (suc zero)) = c
 pick a b c d (suc (suc (suc j))) = d
 
--- symbol j of number k is symbol k of number j, j and k being below four
+-- symbol j of new number k is symbol k of old number j, j and k being below four
 pub record Turned (a b c d : ℕ) (r : Four) : Type 0 where
   pub symbol : (k j e : ℕ) → k < 4 → j < 4 → e < 10 → bitOf 64 (pick (r .a) (r .b) (r .c) (r .d) k) (10 * j + e) ≡ bitOf 64 (pick a b c d j) (10 * k + e)
 

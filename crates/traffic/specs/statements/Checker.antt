@@ -1,4 +1,4 @@
--- What the checker compares, and what it counts over streams (02, request 01); `proofs/Counts` proves both.
+-- What the checker compares, and what it counts over streams (02, request 01); `proofs/Counts` proves each.
 -- Assumes nothing.
 use mathlib.Core.Path.{_≡_}
 use mathlib.Core.Bool.{true, false, not, _&&_}
@@ -25,3 +25,7 @@ CountsExactly =
     → (r ≡ 0)
     × (c′ ≡ tabulate 32 (λ p. count (λ i. not (ltb (1320 * f + i) 1440)
     && not (eqb (streamBit back p (1320 * f + i)) (streamBit sent p (1320 * f + i - 1440)))) 1320))
+
+-- there is such a call, whatever the frame, the lanes and the counts
+abbrev pub ChecksExist : Type 0
+ChecksExist = (f : ℕ) (lanes c : List ℕ) → (r : ℕ) × (c′ : List ℕ) × Checks f lanes c r c′

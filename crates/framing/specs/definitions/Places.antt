@@ -1,4 +1,4 @@
--- What every call of sending and receiving has in common: the exchanged places.
+-- The exchanged places of sending and receiving.
 -- Assumes nothing.
 use Rattle.lanes.specs.definitions.Permutation.{Places, named}
 

@@ -2,7 +2,7 @@
 -- Assumes nothing.
 use mathlib.Core.Path.{refl}
 use Rattle.lanes.specs.definitions.Permutation.{named}
-use Rattle.framing.specs.statements.Call.{BasePlaces}
+use Rattle.framing.specs.statements.Places.{BasePlaces}
 
 pub base-places : BasePlaces
 unfolding named

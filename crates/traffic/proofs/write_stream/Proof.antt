@@ -1,12 +1,11 @@
--- `traffic::fill_stream` meets its contract: two words by the register, then each by those before it. Assumes nothing.
+-- `traffic::write_stream` meets its contract: two words by the register, then each by those before it. Assumes nothing.
 use mathlib.Core.Path.{refl, _∙_}
 use mathlib.Core.Logic.{inl, inr}
-use native.Mathlib.Omega.{arith}
 use lib.Dec.{lit≤}
 use lib.ListN.{length-set}
 use Rattle.traffic.proofs.Stream.{two-words, second-word}
-use Rattle.traffic.proofs.fill_stream.Statement.{statement}
-use Rattle.traffic.proofs.fill_stream.Tie as tie
+use Rattle.traffic.proofs.write_stream.Statement.{statement}
+use Rattle.traffic.proofs.write_stream.Tie as tie
 use borrow.Author.Needs.{needs}
 
 grow-requires : tie.Need-grow-requires
@@ -45,8 +44,8 @@ returns c =
     (two-words (start .args .words .now) (start .pre .1) (words .before .first-word .ensures)
     (words .first-word2 .ensures ∙ second-word s (later .before .before .ahead .ensures .0) (later .before .ahead2 .ensures .0) (later .ahead3 .ensures .0)))))
 
-pub fill-stream-spec : {M : Type 1} → statement M
-fill-stream-spec =
+pub write-stream-spec : {M : Type 1} → statement M
+write-stream-spec =
     tie.close
     (tie.spec
     (λ c κs. search needs)
