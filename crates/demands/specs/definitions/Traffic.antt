@@ -13,7 +13,8 @@ use Rattle.demands.specs.definitions.Trial.{Trial}
 abbrev pub isWrong : {ex : Places} {n : ℕ} {flips lanes room outs flagBuffers : ℕ → List ℕ} → Trial ex n flips lanes room outs flagBuffers → ℕ → ℕ → Bool
 isWrong t p i = not (eqb (streamBit (t .back) p i) (streamBit (t .cleanBack) p i))
 
--- how many bits of lane p of frame f have come back wrong, those of the first 36 blocks of the lane, 1,440 bits of zeros, not counted
+-- how many bits of lane p of frame f have come back wrong, those of the first 36 blocks of the lane, 1,440 bits of zeros, not counted; written out
+-- here as the demand has it, and not by what the checker compares
 unfoldable pub wrongInLane : {ex : Places} {n : ℕ} {flips lanes room outs flagBuffers : ℕ → List ℕ} → Trial ex n flips lanes room outs flagBuffers
     → ℕ → ℕ → ℕ
 wrongInLane t f p = count (λ i. not (ltb (1320 * f + i) 1440) && isWrong t p (1320 * f + i)) 1320

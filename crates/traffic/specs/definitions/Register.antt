@@ -24,8 +24,8 @@ seed = 2 ^ 31 - 1
 abbrev pub stateAfter : ℕ → ℕ
 stateAfter n = stateFrom seed n
 
--- the bit sent at a state: inverted (02), and taken where the feedback enters (house). Figure 6 of 000, which is missing, could change this definition and no
--- other
+-- the bit sent at a state: inverted (02), and taken where the feedback enters (house). Figure 6 of 000, which is missing, could change this definition and, of
+-- the others, only the figure `firstBits`
 unfoldable pub sentBit : ℕ → ℕ
 sentBit s = 1 - entering s
 

@@ -30,7 +30,7 @@ pub record AsFar (a s r : ℕ) : Type 0 where
 unfoldable pub partedOf : ℕ → ℕ → ℕ → ℕ
 partedOf k mask x = bitAnd (bitXor x (x * 2 ^ k % 2 ^ 64)) mask
 
--- `spread`: bit i of a number of up to 32 bits is at place 2 i
+-- `spread`: for a number of up to 32 bits, the bit worth 2^i becomes one worth 2^(2 i)
 unfoldable pub spreadOf : ℕ → ℕ
 spreadOf x =
     partedOf 1 0x5555555555555555 (partedOf 2 0x3333333333333333 (partedOf 4 0x0F0F0F0F0F0F0F0F
