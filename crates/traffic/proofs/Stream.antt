@@ -125,7 +125,8 @@ two-words {s} {a} {b} words l ea eb =
 
 module _ {s n : ℕ} {words : List ℕ} (h : s < 2 ^ 31) (S : Streams s n words) where
   -- by the words 28 d and 31 d before it
-  pub word-grown : (d : ℕ) → Rule (64 * d) → 31 * d ≤ n → 0 < d → 2 ^ 64 - 1 - bitXor (getD words (n - 28 * d) 0) (getD words (n - 31 * d) 0) ≡ streamWord s n
+  pub word-grown : (d : ℕ) → Rule (64 * d) → 31 * d ≤ n → 0 < d
+      → 2 ^ 64 - 1 - bitXor (getD words (n - 28 * d) 0) (getD words (n - 31 * d) 0) ≡ streamWord s n
   unfolding streamWord
   word-grown d R l p =
       let m : ℕ = 64 * (n - 31 * d) in
