@@ -15,10 +15,10 @@
 
 /* The version of this header and of the archive that comes with it. Any change of what a host was told raises the first number, an addition the second,
  * everything else the third. */
-#define LR800_VERSION_MAJOR 2
-#define LR800_VERSION_MINOR 1
+#define LR800_VERSION_MAJOR 3
+#define LR800_VERSION_MINOR 0
 #define LR800_VERSION_PATCH 0
-#define LR800_VERSION "2.1.0"
+#define LR800_VERSION "3.0.0"
 
 #ifdef __cplusplus
 extern "C" {
@@ -45,7 +45,7 @@ enum {
   /* by lr800_account_enter, and 10 and 11 by lr800_account_lose and lr800_run_step */
   LR800_LATE = 10,                /* the frame's number is late: 2^31 or more after the expected one, round 2^32 */
   LR800_ABOVE_LIMIT = 11,         /* after the entry, accepted or missing frames would stand above 1,000,000, or some tally above 384,000,000 */
-  LR800_WRONG_TALLIES = 12,       /* the frame's tallies do not add up to 384: some of its flag bytes are above 3 */
+  LR800_WRONG_TALLIES = 12,       /* the frame's tallies are not those due to its number, 0, 320 or 384: some of its tallied flag bytes are above 3 */
   /* by lr800_run_step */
   LR800_MORE_THAN_ONE = 22        /* more bytes than one record: more stand behind a whole record of lawful length, version and kind */
 };
@@ -65,7 +65,7 @@ static inline const char *lr800_refusal_text(uint32_t number) {
   case LR800_WRONG_RECORD_KIND: return "the record's kind does not match its length";
   case LR800_LATE: return "the frame's number is late";
   case LR800_ABOVE_LIMIT: return "accepted or missing frames or a tally would stand above the limit";
-  case LR800_WRONG_TALLIES: return "the frame's tallies do not add up to 384";
+  case LR800_WRONG_TALLIES: return "the frame's tallies are not those due to its number";
   case LR800_MORE_THAN_ONE: return "more bytes than one record";
   default: return "no refusal has this number";
   }
@@ -92,9 +92,12 @@ uint32_t lr800_receive(const uint8_t *input, size_t input_length, uint8_t *store
 
 /* ---- The account: the host receives, and enters each frame ---- */
 
-/* The next expected number, frames accepted and missing, and words with 0, 1 or 2 bits mended and flagged. Any numbers are lawful. */
+/* The next expected number, the start number, frames accepted and missing, and of the words tallied those with 0, 1 or 2 bits mended and those flagged. Any
+ * numbers are lawful. Neither a frame nor a loss changes the start number: by it an entry knows which words to tally.
+ * Before 3.0.0 no account had a start number: a host made for a version before must be compiled again, and open the accounts again that it has kept. */
 typedef struct lr800_account {
   uint32_t expected;
+  uint32_t start;
   uint64_t accepted;
   uint64_t missing;
   uint64_t clean;
@@ -103,11 +106,14 @@ typedef struct lr800_account {
   uint64_t flagged;
 } lr800_account;
 
-/* The account of a new order: start is expected, and every other number is 0. */
+/* The account of a new order: start is both the expected and the start number, and every other number is 0. */
 void lr800_account_open(lr800_account *account, uint32_t start);
 
-/* Enters a frame that was received, by its number and its flag bytes: the frames of a gap before it are missing. Answers 0, 4, 10, 11 or 12; a
- * frame that is refused was not measured, and the host must stop the run: give lr800_verdict a `stopped` other than 0.
+/* Enters a frame that was received, by its number and its flag bytes: the frames of a gap before it are missing.
+ * Words that still carry the zeros with which the sender's store starts are no measurement, so the frame's number, round 2^32, says which words are tallied:
+ * none of the frame at the start number; 320 of the next number's, all but words 0 and 1 of each lane (flag places 0 to 63); all 384 of every other number's.
+ * This holds too where the frame at the start number was lost or is missing. Flag bytes of words that are not tallied are not looked at.
+ * Answers 0, 4, 10, 11 or 12; a frame that is refused was not measured, and the host must stop the run: give lr800_verdict a `stopped` other than 0.
  * A frame that is refused here has moved the store that was lent to lr800_receive: only a copy made before can undo that. */
 uint32_t lr800_account_enter(lr800_account *account, uint32_t number, const uint8_t *flags, size_t flags_length);
 
@@ -122,9 +128,11 @@ enum { LR800_NOT_MEASURED = 0, LR800_PASS = 1, LR800_FAIL = 2 };
  * was read to its end; every frame of it was given to lr800_receive and entered, once and in its turn, with its own flags or, refused by 5, as a loss; and
  * nothing was refused but by 5.
  * Only the numbers given are judged: no limit is applied, and nothing is known of late frames.
- *   LR800_NOT_MEASURED  stopped is not 0, or asked is 0, or accepted is not asked, or missing is not 0, or the four tallies do not total 384 times accepted
+ *   LR800_NOT_MEASURED  stopped is not 0, or asked is below 2, or accepted is not asked, or missing is not 0, or the four tallies and 448 do not total 384
+ *                       times accepted; no sum wraps
  *   LR800_PASS          else, if flagged is at most allowed
- *   LR800_FAIL          else */
+ *   LR800_FAIL          else
+ * So an order for one frame is always not measured: no word of its frame is tallied. */
 uint32_t lr800_verdict(uint32_t asked, uint32_t allowed, uint64_t accepted, uint64_t missing, uint64_t clean, uint64_t one, uint64_t two, uint64_t flagged,
                        uint32_t stopped);
 
@@ -248,6 +256,7 @@ uint32_t lr800_traffic_check(uint32_t frame, const uint8_t *lanes, size_t lanes_
 
 /* the structs are laid out as in the archive, or this does not compile */
 typedef char lr800_account_has_56_bytes[sizeof(lr800_account) == 56 ? 1 : -1];
+typedef char lr800_account_has_start_at_4[offsetof(lr800_account, start) == 4 && offsetof(lr800_account, accepted) == 8 ? 1 : -1];
 typedef char lr800_record_has_40_bytes[sizeof(lr800_record) == 40 ? 1 : -1];
 typedef char lr800_run_has_72_bytes[sizeof(lr800_run) == 72 ? 1 : -1];
 

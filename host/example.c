@@ -13,6 +13,7 @@ enum {
     LOST = 21,                               /* the frame that will not lock, or is left out */
     LANES = 32, LANE_BYTES = LR800_LANES / LANES,
     BEHIND = 180,                            /* bytes by which a lane comes back later: 36 blocks of 40 bits */
+    FILL = 448,                              /* words that carry the zeros of the sender's store: all of the first frame, 64 of the next */
     PILOTS_APART = 64, WRONG_PILOTS = 25,    /* a pilot is the first symbol of each 64; so many wrong ones are no lock */
     INFORMATION = 110,                       /* the first bits of a word; those behind them are parity, which no lane has */
     HIT = 5,                                 /* the frame of test traffic that has words which cannot be mended */
@@ -119,6 +120,7 @@ static void receive_stream(const char *what, int lost, uint32_t verdict) {
     lr800_account account;
     int since = 2, due = 0; /* frames since one that was lost or not mended; before the first there is none to spoil anything */
     uint32_t stopped = 0, entered, said;
+    uint64_t tallied;
     memset(store, 0, sizeof store); /* fresh */
     lr800_account_open(&account, START);
     for (int f = 0; f < FRAMES && !stopped; f++) {
@@ -150,6 +152,9 @@ static void receive_stream(const char *what, int lost, uint32_t verdict) {
     }
     must(!stopped && account.expected == START + FRAMES, "an entry was refused");
     must(account.accepted + account.missing == FRAMES && account.missing == (lost < FRAMES), "the account does not know of every frame");
+    /* words that carry the fresh store's zeros are no measurement; neither of the two frames that have such words is the lost one */
+    tallied = account.clean + account.one + account.two + account.flagged;
+    must(account.start == START && tallied + FILL == LR800_FLAGS * account.accepted, "other words are tallied than are due");
     said = lr800_account_verdict(&account, FRAMES, ALLOWED, stopped);
     must(said == verdict, "another verdict");
     printf("%s\nlanes came back as sent, 36 blocks later, in %d frames\n", what, due);

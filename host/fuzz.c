@@ -14,8 +14,10 @@
 #include <sys/mman.h>
 
 enum { NUMBERS = 16, CONTROL = 8 * NUMBERS, PAGE = 4096, GUARD = 0xA5, PILOTS = 96, NO_LOCK = 25, LONGEST = 60000 };
+enum { FILL = 448 }; /* words that still carry the zeros of the sender's store: all of the frame at the start number, and 64 of the next */
 
-/* the control numbers: the first byte by byte, the others whole; the account's seven stand in its own order */
+/* the control numbers: the first byte by byte, the others whole; the account's seven stand in its own order, the first its two numbers of a frame: the start
+ * number in the upper half and the expected one in the lower */
 enum { CHOICES, PLACE, ACCOUNT, FIGURES = ACCOUNT + 7, GOT, ROOM, STOPPED, BITS, TRAFFIC };
 enum { SIDE, INPUT_LENGTH, STORE_LENGTH, OUTPUT_LENGTH, FLAGS_LENGTH, STORE_FROM, RAW_FLAGS, COUNTS_LENGTH };
 
@@ -232,55 +234,89 @@ static void check_send(void) {
 /* ---- The account and the verdict, of any stored numbers ---- */
 
 static int same_account(const lr800_account *a, const lr800_account *b) {
-    return a->expected == b->expected && a->accepted == b->accepted && a->missing == b->missing && a->clean == b->clean && a->one == b->one && a->two == b->two
-        && a->flagged == b->flagged;
+    return a->expected == b->expected && a->start == b->start && a->accepted == b->accepted && a->missing == b->missing && a->clean == b->clean
+        && a->one == b->one && a->two == b->two && a->flagged == b->flagged;
 }
 
 static int above(uint64_t stored, uint64_t added, uint64_t limit) {
     return stored > limit || added > limit - stored;
 }
 
-static void check_account(const lr800_account *before) {
-    static fence flags;
-    static const uint64_t frames = 1000000, words = 384000000;
-    size_t length = some_length(FLAGS_LENGTH, LR800_FLAGS);
-    uint8_t *marked = lend_filled(&flags, length, capture, capture_length);
-    uint64_t counts[4] = {0};
-    for (size_t i = 0; i < length; i++) {
-        if (choice(RAW_FLAGS) < 200) marked[i] &= 3;
-        if (marked[i] < 4) counts[marked[i]]++;
-    }
-    uint32_t got = (uint32_t)control[GOT], gap = got - before->expected, expected = 0;
-    lr800_account after = *before;
+static const uint64_t most_frames = 1000000, most_words = 384000000;
+
+/* the flag place from which on words are tallied, of a frame that is so many numbers behind the start number */
+static size_t tallied_from(uint32_t behind) {
+    return behind == 0 ? LR800_FLAGS : behind == 1 ? LR800_FLAGS - 320 : 0;
+}
+
+/* an entry, beside what it must do */
+static uint32_t enter(lr800_account *account, uint32_t number, const uint8_t *flags, size_t length) {
+    lr800_account after = *account;
+    uint32_t gap = number - account->expected, behind = number - account->start, expected = 0;
+    uint64_t counts[4] = {0}, due = LR800_FLAGS - tallied_from(behind);
+    for (size_t i = tallied_from(behind); i < length; i++)
+        if (flags[i] < 4) counts[flags[i]]++;
     if (length != LR800_FLAGS) expected = 4;
     else if (gap >= (uint32_t)1 << 31) expected = 10;
-    else if (above(before->accepted, 1, frames) || above(before->missing, gap, frames) || above(before->clean, counts[0], words)
-             || above(before->one, counts[1], words) || above(before->two, counts[2], words) || above(before->flagged, counts[3], words)) expected = 11;
-    else if (counts[0] + counts[1] + counts[2] + counts[3] != LR800_FLAGS) expected = 12;
+    else if (above(after.accepted, 1, most_frames) || above(after.missing, gap, most_frames) || above(after.clean, counts[0], most_words)
+             || above(after.one, counts[1], most_words) || above(after.two, counts[2], most_words)
+             || above(after.flagged, counts[3], most_words)) expected = 11;
+    else if (counts[0] + counts[1] + counts[2] + counts[3] != due) expected = 12;
     if (expected == 0) {
-        after.expected = got + 1;
+        after.expected = number + 1;
         after.accepted++, after.missing += gap;
         after.clean += counts[0], after.one += counts[1], after.two += counts[2], after.flagged += counts[3];
     }
-    lr800_account account = *before;
-    uint32_t answer = lr800_account_enter(&account, got, marked, length);
-    mark(ENTERED, answer);
-    MUST(answer == expected && same_account(&account, &after));
-    check_fence(&flags);
+    uint32_t answer = lr800_account_enter(account, number, flags, length);
+    mark(ENTERED, 3 * answer + (behind < 2 ? behind : 2));
+    MUST(answer == expected && same_account(account, &after));
+    return answer;
+}
 
-    expected = 0;
-    after = *before;
+/* a loss, beside what it must do */
+static uint32_t lose(lr800_account *account, uint32_t number) {
+    lr800_account after = *account;
+    uint32_t gap = number - account->expected, expected = 0;
     if (gap >= (uint32_t)1 << 31) expected = 10;
-    else if (above(before->accepted, 0, frames) || above(before->missing, (uint64_t)gap + 1, frames) || above(before->clean, 0, words)
-             || above(before->one, 0, words) || above(before->two, 0, words) || above(before->flagged, 0, words)) expected = 11;
-    if (expected == 0) after.expected = got + 1, after.missing += (uint64_t)gap + 1;
-    account = *before;
-    answer = lr800_account_lose(&account, got);
+    else if (above(after.accepted, 0, most_frames) || above(after.missing, (uint64_t)gap + 1, most_frames) || above(after.clean, 0, most_words)
+             || above(after.one, 0, most_words) || above(after.two, 0, most_words) || above(after.flagged, 0, most_words)) expected = 11;
+    if (expected == 0) after.expected = number + 1, after.missing += (uint64_t)gap + 1;
+    uint32_t answer = lr800_account_lose(account, number);
     mark(LOST, answer);
-    MUST(answer == expected && same_account(&account, &after));
+    MUST(answer == expected && same_account(account, &after));
+    return answer;
+}
 
+static void check_account(const lr800_account *before) {
+    static fence flags;
+    static const size_t edges[] = {0, 63, 64, LR800_FLAGS - 1}; /* the first and the last place of words 0 and 1, and of those behind them */
+    size_t length = some_length(FLAGS_LENGTH, LR800_FLAGS);
+    uint32_t got = (uint32_t)control[GOT];
+    /* the stored start number, and those by which the frame is the first, the next, the one behind it and the one before them all */
+    uint32_t starts[] = {before->start, got, got - 1, got - 2, got + 1};
+    lr800_account account, from = *before;
+    for (unsigned i = 0; i < sizeof starts / sizeof starts[0]; i++) {
+        uint8_t *marked = lend_filled(&flags, length, capture, capture_length), raw = choice(RAW_FLAGS);
+        from.start = starts[i];
+        /* mostly flags as they are received; else any bytes for the words that are not tallied, or for all */
+        for (size_t k = 0; k < length; k++)
+            if (raw < 180 || (raw < 220 && k >= tallied_from(got - from.start))) marked[k] &= 3;
+        account = from;
+        enter(&account, got, marked, length);
+        for (unsigned e = 0; e < sizeof edges / sizeof edges[0] && length == LR800_FLAGS; e++) { /* one byte above 3 */
+            uint8_t was = marked[edges[e]];
+            marked[edges[e]] |= 4;
+            account = from;
+            enter(&account, got, marked, length);
+            marked[edges[e]] = was;
+        }
+        check_fence(&flags);
+        account = from;
+        lose(&account, got);
+    }
     lr800_account_open(&account, got);
-    MUST(account.expected == got && !account.accepted && !account.missing && !account.clean && !account.one && !account.two && !account.flagged);
+    MUST(account.expected == got && account.start == got);
+    MUST(!account.accepted && !account.missing && !account.clean && !account.one && !account.two && !account.flagged);
 }
 
 static uint32_t verdict_on(const lr800_run *run, uint32_t stopped) {
@@ -288,12 +324,12 @@ static uint32_t verdict_on(const lr800_run *run, uint32_t stopped) {
     uint32_t verdict = lr800_verdict(run->asked, run->allowed, a->accepted, a->missing, a->clean, a->one, a->two, a->flagged, stopped);
     mark(JUDGED, verdict);
     MUST(lr800_account_verdict(a, run->asked, run->allowed, stopped) == verdict);
-    if (verdict == LR800_NOT_MEASURED) return verdict;
-    MUST(verdict == (a->flagged <= run->allowed ? LR800_PASS : LR800_FAIL));
-    MUST(!stopped && run->asked && a->accepted == run->asked && !a->missing);
-    /* none of them wraps: each is at most the total */
-    uint64_t total = 384 * a->accepted;
-    MUST(a->clean <= total && a->one <= total && a->two <= total && a->flagged <= total && a->clean + a->one + a->two + a->flagged == total);
+    int measured = !stopped && run->asked >= 2 && a->accepted == run->asked && !a->missing;
+    /* none of them wraps: there are two frames or more, and each tally is at most the total */
+    uint64_t total = measured ? 384 * a->accepted - FILL : 0;
+    measured = measured && a->clean <= total && a->one <= total && a->two <= total && a->flagged <= total
+        && a->clean + a->one + a->two + a->flagged == total;
+    MUST(verdict == (uint32_t)(!measured ? LR800_NOT_MEASURED : a->flagged <= run->allowed ? LR800_PASS : LR800_FAIL));
     return verdict;
 }
 
@@ -364,28 +400,33 @@ static int same_run(const lr800_run *a, const lr800_run *b) {
     return same_phase(a->phase, b->phase) && a->asked == b->asked && a->allowed == b->allowed && same_account(&a->account, &b->account);
 }
 
-/* whether a step must stop a run, and by which number: by the calls that tell a record's refusal and that of its entry */
-static int stops(const lr800_run *run, const uint8_t *piece, size_t length, uint32_t *number) {
+/* whether a step must stop a run, by which number, and the account that it must leave: by the calls that tell a record's refusal and that make its entry */
+static int stops(const lr800_run *run, const uint8_t *piece, size_t length, uint32_t *number, lr800_account *account) {
     static uint8_t kept[LR800_STORE], lanes[LR800_LANES], flags[LR800_FLAGS];
-    lr800_account account = run->account;
+    *account = run->account;
     *number = 0;
     if (run->phase >= LR800_STOPPED) return 0;
     lr800_record r = lr800_read(piece, length, 0);
     *number = r.refusal ? r.refusal : r.next < length ? LR800_MORE_THAN_ONE : 0;
     if (*number || r.kind == LR800_RECORD_NONE) return *number != 0;
-    if (run->phase == LR800_UNORDERED || r.kind == LR800_RECORD_ORDER) return (run->phase == LR800_GOING) == (r.kind == LR800_RECORD_ORDER);
+    if (run->phase == LR800_UNORDERED && r.kind == LR800_RECORD_ORDER) {
+        lr800_account_open(account, r.number);
+        return 0;
+    }
+    if (run->phase == LR800_UNORDERED || r.kind == LR800_RECORD_ORDER) return 1;
     /* from whatever stands in the store: neither lock nor flags depend on it */
     uint32_t answer = lr800_receive(piece + r.symbols, LR800_FRAME, kept, sizeof kept, lanes, sizeof lanes, flags, sizeof flags);
     MUST(answer == 0 || answer == 5);
-    *number = answer ? lr800_account_lose(&account, r.number) : lr800_account_enter(&account, r.number, flags, sizeof flags);
+    *number = answer ? lose(account, r.number) : enter(account, r.number, flags, sizeof flags);
     return *number != 0;
 }
 
 /* a step, twice from the same beginning. Answers what the step did */
 static uint32_t step(lr800_run *run, const uint8_t *piece, size_t length) {
     lr800_run before = *run, first = *run;
+    lr800_account account;
     uint32_t number;
-    int stopped_now = stops(run, piece, length, &number);
+    int stopped_now = stops(run, piece, length, &number, &account);
     MUST(number == 0 || (((number >= 6 && number <= 11) || number == LR800_MORE_THAN_ONE) && stopped_now));
     for (int again = 0; again < 2; again++) {
         lr800_run after = before;
@@ -396,6 +437,7 @@ static uint32_t step(lr800_run *run, const uint8_t *piece, size_t length) {
     }
     mark(STEPPED, number == LR800_MORE_THAN_ONE ? 60 : 3 * number + first.phase);
     MUST((before.phase < LR800_STOPPED && first.phase == LR800_STOPPED) == stopped_now);
+    MUST(same_account(&first.account, &account));
     if (length == 0 || before.phase >= LR800_STOPPED) MUST(same_run(&before, &first));
     if (before.phase < LR800_STOPPED && first.phase >= LR800_STOPPED) {
         lr800_run stopped = before;
@@ -408,9 +450,12 @@ static uint32_t step(lr800_run *run, const uint8_t *piece, size_t length) {
 
 static void check_kept(const lr800_run *run) {
     const lr800_account *a = &run->account;
-    MUST(run->phase <= LR800_STOPPED && a->accepted <= 1000000 && a->missing <= 1000000);
-    MUST(a->clean + a->one + a->two + a->flagged == 384 * a->accepted);
-    if (run->phase == LR800_UNORDERED) MUST(!run->asked && !run->allowed && !a->expected && !a->accepted && !a->missing);
+    uint64_t fill = 384 * a->accepted - (a->clean + a->one + a->two + a->flagged); /* words of accepted frames that were not tallied */
+    MUST(run->phase <= LR800_STOPPED && a->accepted <= most_frames && a->missing <= most_frames);
+    MUST(a->expected - a->start == (uint32_t)(a->accepted + a->missing));
+    if (a->missing == 0) MUST(fill == (a->accepted == 0 ? 0 : a->accepted == 1 ? LR800_FLAGS : FILL));
+    else MUST(fill == 0 || fill == FILL - LR800_FLAGS || fill == LR800_FLAGS || fill == FILL); /* either of the first two frames may be the missing one */
+    if (run->phase == LR800_UNORDERED) MUST(!run->asked && !run->allowed && !a->expected && !a->start && !a->accepted && !a->missing);
 }
 
 /* Three ways to run the capture, beside the one call that examines it. Each answers the number by which the run was stopped, or 0. */
@@ -630,18 +675,22 @@ int LLVMFuzzerTestOneInput(const uint8_t *data, size_t size) {
 
     /* any stored numbers are lawful */
     lr800_run run = {(uint32_t)(control[STOPPED] >> 32), (uint32_t)(control[FIGURES] >> 32), (uint32_t)control[FIGURES],
-                     {(uint32_t)control[ACCOUNT], control[ACCOUNT + 1], control[ACCOUNT + 2], control[ACCOUNT + 3], control[ACCOUNT + 4], control[ACCOUNT + 5],
-                      control[ACCOUNT + 6]}};
+                     {(uint32_t)control[ACCOUNT], (uint32_t)(control[ACCOUNT] >> 32), control[ACCOUNT + 1], control[ACCOUNT + 2], control[ACCOUNT + 3],
+                      control[ACCOUNT + 4], control[ACCOUNT + 5], control[ACCOUNT + 6]}};
     check_account(&run.account);
     verdict_on(&run, (uint32_t)control[STOPPED]);
     check_report(run);
     lr800_run going = run;
     step(&run, capture, capture_length);
     check_report(run);
-    if (first.kind == LR800_RECORD_FRAME) { /* and of a run that goes on, the first frame as far ahead of the expected one as the control says */
-        going.phase = LR800_GOING;
-        going.account.expected = first.number - ((uint32_t)control[GOT] - (uint32_t)control[ACCOUNT]);
-        step(&going, from_place(first.symbols - 10), LR800_FRAME_BYTES);
+    /* and of a run that goes on, the first frame as far ahead of the expected number as the control says; at the start number, the first and the second behind
+     * it, and as far ahead of it as the control says */
+    for (uint32_t behind = 0; behind < 4 && first.kind == LR800_RECORD_FRAME; behind++) {
+        lr800_run odd = going;
+        odd.phase = LR800_GOING;
+        odd.account.expected = first.number - ((uint32_t)control[GOT] - (uint32_t)control[ACCOUNT]);
+        odd.account.start = first.number - (behind < 3 ? behind : (uint32_t)control[GOT] - going.account.start);
+        step(&odd, from_place(first.symbols - 10), LR800_FRAME_BYTES);
     }
 
     MUST(same_bytes(capture, data + CONTROL, capture_length)); /* a lent capture is only read */
@@ -690,13 +739,13 @@ static void put_control(uint8_t *data, unsigned which, uint64_t n) {
 
 /* numbers at which something changes */
 static uint64_t telling(void) {
-    static const uint64_t at[] = {0, 1, 2, 384, 768, 1000000, 384000000, (uint64_t)1 << 31, (uint64_t)1 << 32, (uint64_t)1 << 63};
+    static const uint64_t at[] = {0, 1, 2, 320, 384, 448, 704, 768, 1000000, 384000000, (uint64_t)1 << 31, (uint64_t)1 << 32, (uint64_t)1 << 63};
     return at[below(sizeof at / sizeof at[0])] + below(5) - 2;
 }
 
-/* a run that was measured, or would be if sums wrapped */
+/* a run that was measured, or would be if sums wrapped, or if other words were fill */
 static void put_measured(uint8_t *data) {
-    uint64_t asked = (uint32_t)(below(2) ? below(4) : telling()), rest = 384 * asked;
+    uint64_t asked = (uint32_t)(below(2) ? below(5) : telling()), rest = 384 * asked - (below(4) ? FILL : 64 * below(8));
     for (unsigned i = 3; i < 6; i++) {
         uint64_t n = below(2) ? below(385) : telling() << below(33);
         put_control(data, ACCOUNT + i, n);
@@ -709,12 +758,13 @@ static void put_measured(uint8_t *data) {
     put_control(data, STOPPED, (uint64_t)LR800_GOING << 32);
 }
 
-/* an account at its limits, and a frame next after the expected one, or where something changes */
+/* an account at its limits, and a frame next after the expected one, or where something changes; at the start number, behind it or anywhere */
 static void put_full(uint8_t *data) {
-    uint32_t expected = (uint32_t)telling();
+    uint32_t expected = (uint32_t)telling(), got = expected + (uint32_t)(below(3) ? below(3) : telling());
+    uint32_t start = got - (uint32_t)(below(4) ? below(4) : telling());
     for (unsigned i = 1; i < 7; i++) put_control(data, ACCOUNT + i, below(3) ? 0 : (i < 3 ? 1000000 : 384000000) - below(2) * below(400));
-    put_control(data, ACCOUNT, expected);
-    put_control(data, GOT, expected + (below(3) ? below(3) : telling()));
+    put_control(data, ACCOUNT, (uint64_t)start << 32 | expected);
+    put_control(data, GOT, got);
 }
 
 /* where the records of a capture begin, as far as their lengths go */

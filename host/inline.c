@@ -30,27 +30,38 @@ static void try_texts(void) {
     for (int i = 0; i < 3; i++) must(strcmp(lr800_refusal_text(far[i]), none) == 0, "another text than that of a number that is none", far[i]);
 }
 
-/* three frames; then every number that counts is another once, and at last tallies whose total is right only round 2^64 */
+/* three frames, and each of their numbers another once, whether it counts or not; tallies of all their words; two frames; one frame and none, which are never
+ * measured, not even by tallies that are right round 2^64; and at last three frames' tallies whose total is right only round 2^64 */
 static const struct {
     lr800_account account;
     uint32_t asked, allowed, stopped, verdict;
 } cases[] = {
-    {{7, 3, 0, 1073, 46, 30, 3}, 3, 3, 0, LR800_PASS},
-    {{8, 3, 0, 1073, 46, 30, 3}, 3, UINT32_MAX, 0, LR800_PASS},
-    {{7, 3, 0, 1073, 46, 30, 3}, 3, 2, 0, LR800_FAIL},
-    {{7, 3, 0, 3, 46, 30, 1073}, 3, 3, 0, LR800_FAIL},
-    {{7, 3, 0, 1073, 46, 30, 3}, 3, 3, 1, LR800_NOT_MEASURED},
-    {{7, 3, 0, 1073, 46, 30, 3}, 3, 3, UINT32_MAX, LR800_NOT_MEASURED},
-    {{7, 3, 0, 1073, 46, 30, 3}, 4, 3, 0, LR800_NOT_MEASURED},
-    {{7, 2, 1, 1073, 46, 30, 3}, 3, 3, 0, LR800_NOT_MEASURED},
-    {{7, 3, 1, 1073, 46, 30, 3}, 3, 3, 0, LR800_NOT_MEASURED},
-    {{7, 0, 3, 0, 0, 0, 0}, 3, 3, 0, LR800_NOT_MEASURED},
-    {{7, 3, 0, 1072, 46, 30, 3}, 3, 3, 0, LR800_NOT_MEASURED},
-    {{7, 3, 0, 1073, 47, 30, 3}, 3, 3, 0, LR800_NOT_MEASURED},
-    {{7, 3, 0, 1073, 46, 31, 3}, 3, 3, 0, LR800_NOT_MEASURED},
-    {{7, 3, 0, 1073, 46, 30, 2}, 3, 3, 0, LR800_NOT_MEASURED},
-    {{0, 0, 0, 0, 0, 0, 0}, 0, 0, 0, LR800_NOT_MEASURED},
-    {{7, 3, 0, UINT64_MAX, 1153, 0, 0}, 3, 3, 0, LR800_NOT_MEASURED},
+    {{7, 4, 3, 0, 625, 46, 30, 3}, 3, 3, 0, LR800_PASS},
+    {{8, 4, 3, 0, 625, 46, 30, 3}, 3, UINT32_MAX, 0, LR800_PASS},
+    {{7, 5, 3, 0, 625, 46, 30, 3}, 3, 3, 0, LR800_PASS},
+    {{7, 4, 3, 0, 625, 46, 30, 3}, 3, 2, 0, LR800_FAIL},
+    {{7, 4, 3, 0, 3, 46, 30, 625}, 3, 3, 0, LR800_FAIL},
+    {{7, 4, 3, 0, 625, 46, 30, 3}, 3, 3, 1, LR800_NOT_MEASURED},
+    {{7, 4, 3, 0, 625, 46, 30, 3}, 3, 3, UINT32_MAX, LR800_NOT_MEASURED},
+    {{7, 4, 3, 0, 625, 46, 30, 3}, 4, 3, 0, LR800_NOT_MEASURED},
+    {{7, 4, 2, 1, 625, 46, 30, 3}, 3, 3, 0, LR800_NOT_MEASURED},
+    {{7, 4, 3, 1, 625, 46, 30, 3}, 3, 3, 0, LR800_NOT_MEASURED},
+    {{7, 4, 0, 3, 0, 0, 0, 0}, 3, 3, 0, LR800_NOT_MEASURED},
+    {{7, 4, 3, 0, 624, 46, 30, 3}, 3, 3, 0, LR800_NOT_MEASURED},
+    {{7, 4, 3, 0, 625, 47, 30, 3}, 3, 3, 0, LR800_NOT_MEASURED},
+    {{7, 4, 3, 0, 625, 46, 31, 3}, 3, 3, 0, LR800_NOT_MEASURED},
+    {{7, 4, 3, 0, 625, 46, 30, 2}, 3, 3, 0, LR800_NOT_MEASURED},
+    {{7, 4, 3, 0, 1073, 46, 30, 3}, 3, 3, 0, LR800_NOT_MEASURED},
+    {{6, 4, 2, 0, 320, 0, 0, 0}, 2, 0, 0, LR800_PASS},
+    {{6, 4, 2, 0, 0, 0, 0, 320}, 2, 319, 0, LR800_FAIL},
+    {{6, 4, 2, 0, 0, 0, 0, 0}, 2, 0, 0, LR800_NOT_MEASURED},
+    {{6, 4, 2, 0, 768, 0, 0, 0}, 2, 0, 0, LR800_NOT_MEASURED},
+    {{5, 4, 1, 0, 0, 0, 0, 0}, 1, 0, 0, LR800_NOT_MEASURED},
+    {{5, 4, 1, 0, 384, 0, 0, 0}, 1, 0, 0, LR800_NOT_MEASURED},
+    {{5, 4, 1, 0, UINT64_MAX - 63, 0, 0, 0}, 1, 0, 0, LR800_NOT_MEASURED},
+    {{0, 0, 0, 0, 0, 0, 0, 0}, 0, 0, 0, LR800_NOT_MEASURED},
+    {{0, 0, 0, 0, UINT64_MAX - 447, 0, 0, 0}, 0, 0, 0, LR800_NOT_MEASURED},
+    {{7, 4, 3, 0, UINT64_MAX, 705, 0, 0}, 3, 3, 0, LR800_NOT_MEASURED},
 };
 
 static void try_verdicts(void) {

@@ -17,11 +17,12 @@
 enum { GUARD_BYTE = 0xA5 };
 
 enum { SEND, RECEIVE, ACCOUNT_OPEN, ACCOUNT_ENTER, ACCOUNT_LOSE, VERDICT, READ, WANTED, RUN_OPEN, RUN_STEP, RUN_STOP, RUN_VERDICT, RUN_REPORT, EXAMINE,
-       EXAMINE_VERDICT, TRAFFIC_STATE, TRAFFIC_FRAME, TRAFFIC_NEXT, TRAFFIC_CHECK, FUNCTIONS, READ_KIND = FUNCTIONS, STEP_PHASE, WRONG_BITS, TALLIES };
+       EXAMINE_VERDICT, TRAFFIC_STATE, TRAFFIC_FRAME, TRAFFIC_NEXT, TRAFFIC_CHECK, FUNCTIONS, READ_KIND = FUNCTIONS, STEP_PHASE, WRONG_BITS, TALLIED,
+       TALLIES };
 
 /* how often each number occurred that the header lists; of a run's reports, none, the shortest and the longest; of captures', none, the shortest and that of no
  * bytes; of states, that of no bits and that of one; of the wrong bits of a lane, none, one, and all that are compared, of the second frame and of a later
- * one */
+ * one; of the words that an accepted frame adds to the tallies, those of the start number, of the next and of every other */
 enum { MOST_NUMBERS = 8 };
 typedef struct {
     const char *name;
@@ -54,6 +55,7 @@ static tally tallies[TALLIES] = {
     [TRAFFIC_NEXT] = {.name = "lr800_traffic_next answered", .count = 2, .numbers = {0, 3}},
     [TRAFFIC_CHECK] = {.name = "lr800_traffic_check answered", .count = 3, .numbers = {0, 1, 3}},
     [WRONG_BITS] = {.name = "lr800_traffic_check counted in a lane", .count = 4, .numbers = {0, 1, 1200, 1320}, .open = 1},
+    [TALLIED] = {.name = "accepted frames added words", .count = 3, .numbers = {0, 320, 384}},
 };
 
 static unsigned long calls, in_runs;
@@ -89,6 +91,7 @@ static size_t take_size(void) {
 static lr800_account take_account(void) {
     lr800_account a;
     a.expected = take32();
+    a.start = take32();
     a.accepted = take64();
     a.missing = take64();
     a.clean = take64();
@@ -195,6 +198,7 @@ static void compare_counts(counts c, const char *function) {
 
 static void compare_accounts(const lr800_account *a, const lr800_account *b, const char *function) {
     if (a->expected != b->expected) stop(function, "left another expected number");
+    if (a->start != b->start) stop(function, "left another start number");
     if (a->accepted != b->accepted) stop(function, "left other accepted frames");
     if (a->missing != b->missing) stop(function, "left other missing frames");
     if (a->clean != b->clean || a->one != b->one || a->two != b->two || a->flagged != b->flagged) stop(function, "left other tallies");
@@ -217,6 +221,12 @@ static void count(int which, uint64_t number) {
         }
     t->others++;
     if (!t->open) stop(t->name, "a number that is not in its list");
+}
+
+/* the words that a frame added, where it was accepted */
+static void count_tallied(const lr800_account *before, const lr800_account *after) {
+    if (after->accepted <= before->accepted) return;
+    count(TALLIED, after->clean - before->clean + after->one - before->one + after->two - before->two + after->flagged - before->flagged);
 }
 
 /* the answer must be the one told, and is counted */
@@ -250,8 +260,8 @@ static void replay_account(int function) {
     static const char *const names[] = {"lr800_account_open", "lr800_account_enter", "lr800_account_lose"};
     const char *name = names[function - ACCOUNT_OPEN];
     guarded block = guard(sizeof(lr800_account), 0);
-    lr800_account *account = (lr800_account *)(void *)block.bytes, after;
-    *account = take_account();
+    lr800_account *account = (lr800_account *)(void *)block.bytes, before = take_account(), after;
+    *account = before;
     uint32_t number = take32();
     if (function == ACCOUNT_OPEN) {
         lr800_account_open(account, number);
@@ -266,6 +276,7 @@ static void replay_account(int function) {
         answered(function, name, lr800_account_lose(account, number), right);
     }
     after = take_account();
+    if (function == ACCOUNT_ENTER) count_tallied(&before, &after);
     compare_accounts(account, &after, name);
     release(block, name);
 }
@@ -313,6 +324,7 @@ static void replay_run(int function) {
         answered(function, name, lr800_run_step(run, lent(piece), piece.lent.length), right);
         count(STEP_PHASE, after.phase);
         in_runs += after.account.accepted > before.account.accepted;
+        count_tallied(&before.account, &after.account);
         compare(piece, name, "wrote the piece");
     } else {
         after = take_run();

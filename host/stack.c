@@ -6,10 +6,11 @@
 #include <stdlib.h>
 #include <string.h>
 
-enum { SIZE = 1 << 20, PAINT = 0xA7, SAID = 70000 };
+enum { SIZE = 1 << 20, PAINT = 0xA7, SAID = 70000, FRAMES = 3 };
 
 static uint8_t lanes[LR800_LANES], frame[LR800_FRAME], store[LR800_STORE], flags[LR800_FLAGS], text[LR800_REPORT];
-static uint8_t capture[LR800_ORDER_BYTES + LR800_FRAME_BYTES] = {0, 0, 0, 14, 1, 0, 0, 0, 0, 0, 0, 0, 0, 1}; /* an order of one frame, and the frame */
+/* an order of three frames from number 0 on, and the frames: the one at the start number, the next, and one whose words are all tallied */
+static uint8_t capture[LR800_ORDER_BYTES + FRAMES * LR800_FRAME_BYTES] = {0, 0, 0, 14, 1, 0, 0, 0, 0, 0, 0, 0, 0, FRAMES};
 static uint8_t *const record = capture + LR800_ORDER_BYTES;
 static uint8_t next_lanes[LR800_LANES];
 static uint32_t verdict, state, wrong[LR800_COUNTS];
@@ -68,16 +69,21 @@ int main(void) {
     static const uint8_t head[10] = {0, 0, 0x18, 0x06, 1, 1, 0, 0, 0, 0}; /* a frame, number 0 */
     size_t idle = taken(nothing), most = 0;
     run.phase = LR800_GOING;
+    run.account.start = 1; /* so that number 0 is neither this one nor the next, and all words are tallied */
     for (size_t i = 0; i < sizeof calls / sizeof calls[0]; i++) {
         size_t bytes;
-        memcpy(record, head, sizeof head);
-        memcpy(record + sizeof head, frame, sizeof frame);
+        for (uint8_t f = 0; f < FRAMES; f++) {
+            uint8_t *to = record + f * LR800_FRAME_BYTES;
+            memcpy(to, head, sizeof head);
+            to[sizeof head - 1] = f; /* its number */
+            memcpy(to + sizeof head, frame, sizeof frame);
+        }
         run.account.expected = 0;
         bytes = taken(calls[i]) - idle;
         printf("%s takes %lu bytes of stack\n", names[i], (unsigned long)bytes);
         if (bytes > most) most = bytes;
     }
-    if (run.account.accepted != 2 || verdict != LR800_PASS || !traffic_is_right()) {
+    if (run.account.accepted != 2 || run.account.clean != 2 * LR800_FLAGS || verdict != LR800_PASS || !traffic_is_right()) {
         fprintf(stderr, "stack: the calls did not do their work\n");
         return 1;
     }

@@ -1,7 +1,7 @@
 //! The archive beside this program, in one run: first both make the same calls, then each is timed, whole calls and stage by stage, test traffic among them;
 //! at last their programs that examine a capture. `run` links it, and gives it the folder where it finds them.
 
-use second::account::{count_flags, enter};
+use second::account::{enter_flags, FILL_WORDS};
 use second::capture::{length, Answer, Reader, FRAME_RECORD, LENGTH_BYTES};
 use second::lanes::{deinterleave, interleave, lanes_of_words, permute, words, EXCHANGED, LANES, LANES_BYTES, STORE_BYTES};
 use second::receive::receive_with;
@@ -213,7 +213,7 @@ fn take_without_lanes(decoder: &Decoder, run: &mut Run, answer: Answer) -> bool 
         if wrong_pilots(symbols) < NO_LOCK {
             let (mut words, mut flags) = (frame_words(symbols), [0; FRAME_WORDS]);
             decoder.decode_frame(&mut words, &mut flags);
-            let (refusal, account) = enter(run.account, number, count_flags(&flags));
+            let (refusal, account) = enter_flags(run.account, number, &flags);
             if refusal == 0 {
                 run.account = account;
                 return true;
@@ -270,12 +270,15 @@ fn examined(folder: &Path, program: &[&str]) -> (String, f64, u64) {
     (String::from_utf8(output.stdout).unwrap(), seconds.parse().unwrap(), memory.parse().unwrap())
 }
 
-/// Each program on a capture file: once for its report, so that the file was read before any is timed, then in turn.
-fn rows_captured(folder: &Path, name: &str, frames: &[Frame], words: [usize; 3]) {
+/// Each program on a capture file of frames with so many flips in every word, up to two: once for its report, so that the file was read before any is timed,
+/// then in turn.
+fn rows_captured(folder: &Path, name: &str, frames: &[Frame], flips: usize) {
     let mut file = BufWriter::new(File::create(folder.join("capture")).unwrap());
     capture(frames, CAPTURED, &mut file).and_then(|()| file.flush()).expect("the capture cannot be written");
     let bytes = file.get_ref().metadata().unwrap().len();
-    let [clean, one, two] = words.map(|count| count * CAPTURED);
+    let mut tallies = [0; 3];
+    tallies[flips] = FRAME_WORDS * CAPTURED - FILL_WORDS;
+    let [clean, one, two] = tallies;
     let report = format!(
         "asked {CAPTURED}\naccepted {CAPTURED}\nmissing 0\nclean {clean}\none {one}\ntwo {two}\nflagged 0\nverdict PASS\n"
     );
@@ -482,6 +485,6 @@ fn main() {
     println!("a capture file of {CAPTURED} frames as standard input of each side's program, all with the same report, PASS:");
     println!("the best of {CAPTURE_ROUNDS} rounds, its ratio to the Rust's, and the most resident memory");
     println!("{:36} {:>7} {:>9} {:>9} {:>8}", "", "seconds", "MB/s", "kB", "ratio");
-    rows_captured(folder, "clean", &clean, [FRAME_WORDS, 0, 0]);
-    rows_captured(folder, "two flips", &two, [0, 0, FRAME_WORDS]);
+    rows_captured(folder, "clean", &clean, 0);
+    rows_captured(folder, "two flips", &two, 2);
 }

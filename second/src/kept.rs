@@ -28,17 +28,17 @@ impl Kept {
         }
     }
 
-    /// Where an order began is not kept: once the account is open nothing asks.
+    /// Where an order began is kept in the account that it opened.
     fn run(&self) -> Run {
         let order = Order {
-            start: 0,
+            start: self.account.start,
             asked: self.asked,
             allowed: self.allowed,
         };
         Run {
             order: (self.phase != UNORDERED).then_some(order),
             account: self.account,
-            // Why it stopped is not kept either; this has no number, so that none is told again.
+            // Why it stopped is not kept; this has no number, so that none is told again.
             stop: (self.phase > GOING).then_some(Stop::ReadFailed),
         }
     }
@@ -119,6 +119,7 @@ mod tests {
             allowed: 9,
             account: Account {
                 expected: 5,
+                start: 77,
                 accepted: u64::MAX,
                 missing: 0,
                 clean: 1,
@@ -185,6 +186,26 @@ mod tests {
         assert_eq!(run, right);
     }
 
+    /// The start is kept from step to step, and decides what is tallied of a frame.
+    #[test]
+    fn the_start_of_a_run_stays() {
+        let [frame, lost] = frames(&mut Xorshift::new(97));
+        for start in [0, 6, u32::MAX - 1, u32::MAX] {
+            let mut run = stepped(odd(UNORDERED), &order(start, 9, 0));
+            for (n, symbols, clean) in [
+                (0, &frame, 0),
+                (1, &frame, 320),
+                (2, &lost, 320),
+                (3, &frame, 704),
+                (9, &frame, 1_088),
+            ] {
+                run = stepped(run, &frame_record(start.wrapping_add(n), symbols));
+                assert_eq!((run.account.start, run.account.clean), (start, clean));
+            }
+        }
+        assert_eq!(Kept::new().account, opened(0));
+    }
+
     #[test]
     fn what_stops_a_run_changes_nothing_else() {
         let mut random = Xorshift::new(92);
@@ -231,8 +252,10 @@ mod tests {
         let mut random = Xorshift::new(94);
         let [frame, lost] = frames(&mut random);
         let (frames, words) = (1_000_000, 384_000_000);
-        // Accepted, missing and clean before it; how far ahead; the answers with lock and without.
-        for (accepted, missing, clean, d, with_lock, without) in [
+        // Accepted, missing and clean before it; how far ahead; the answers with lock and without;
+        // in a run that began long ago.
+        let far = 1 << 30;
+        let long_ago = [
             (0, 0, 0, 0, 0, 0),
             (frames - 1, 0, 0, 0, 0, 0),
             (frames, 0, 0, 0, 11, 0),
@@ -248,12 +271,28 @@ mod tests {
             (0, 0, 0, (1 << 31) - 1, 11, 11),
             (0, 0, 0, 1 << 31, 10, 10),
             (frames + 1, frames + 1, words + 1, u32::MAX, 10, 10),
-        ] {
+        ];
+        // With the start before the expected number: the next frame may tally 320 words, or none.
+        let just_begun = [
+            (0, (0, 0, words, 0, 0, 0)),
+            (0, (0, 0, words + 1, 0, 11, 11)),
+            (0, (frames, 0, words, 0, 11, 0)),
+            (1, (0, 0, words - 320, 0, 0, 0)),
+            (1, (0, 0, words - 319, 0, 11, 0)),
+            (0, (0, 0, words - 320, 1, 0, 0)),
+            (0, (0, 0, words - 319, 1, 11, 0)),
+            (1, (0, 0, words - 384, 1, 0, 0)),
+            (1, (0, 0, words - 383, 1, 11, 0)),
+        ];
+        let cases = long_ago.map(|case| (far, case)).into_iter();
+        for (before, case) in cases.chain(just_begun) {
+            let (accepted, missing, clean, d, with_lock, without) = case;
             let run = Kept {
                 phase: GOING,
                 asked: 1,
                 allowed: 0,
                 account: Account {
+                    start: u32::MAX - before,
                     accepted,
                     missing,
                     clean,
@@ -344,25 +383,31 @@ mod tests {
     /// Two records given as one cannot pass, though each alone would.
     #[test]
     fn glued_records_do_not_pass() {
-        let frame = frame_record(8, &frames(&mut Xorshift::new(96))[0]);
-        let records = [order(8, 1, 0), frame];
+        let [frame, _] = frames(&mut Xorshift::new(96));
+        let records = [
+            order(8, 2, 0),
+            frame_record(8, &frame),
+            frame_record(9, &frame),
+        ];
         let run = records.iter().fold(Kept::new(), |run, r| stepped(run, r));
         assert_eq!(run.verdict(), PASS);
         let (number, glued) = answered(Kept::new(), &records.concat());
         assert_eq!((number, glued.verdict()), (22, NOT_MEASURED));
-        // The frame twice: not even the first is entered.
-        let (number, twice) = answered(
-            stepped(Kept::new(), &records[0]),
-            &[&records[1][..], &records[1]].concat(),
-        );
-        assert_eq!((number, twice.account), (22, opened(8)));
+        // Both frames, or the first twice: not even that is entered.
+        for second in [&records[2], &records[1]] {
+            let (number, glued) = answered(
+                stepped(Kept::new(), &records[0]),
+                &[&records[1][..], second].concat(),
+            );
+            assert_eq!((number, glued.account), (22, opened(8)));
+        }
     }
 
     #[test]
     fn only_a_run_that_goes_on_is_measured() {
         let account = Account {
             accepted: 2,
-            clean: 760,
+            clean: 312,
             flagged: 8,
             ..opened(2)
         };
@@ -392,6 +437,7 @@ mod tests {
             allowed: 0,
             account: Account {
                 expected: 0,
+                start: 0,
                 accepted: u64::MAX,
                 missing: u64::MAX,
                 clean: u64::MAX,
@@ -401,10 +447,10 @@ mod tests {
             },
         };
         let least = Kept {
-            asked: 1,
+            asked: 2,
             account: Account {
-                accepted: 1,
-                clean: 384,
+                accepted: 2,
+                clean: 320,
                 ..opened(0)
             },
             ..most

@@ -421,6 +421,42 @@ mod tests {
         }
     }
 
+    /// Two runs from fresh stores over lanes of which every bit differs: where they agree a bit comes
+    /// from before the stream. Exactly the words 0 to 13 of each lane have one, whichever symbols
+    /// are exchanged.
+    #[test]
+    fn words_with_fill() {
+        const FRAMES: usize = 4;
+        let mut random = Xorshift::new(17);
+        for places in [0b0011, 0b1001, 0b0110, 0b1100] {
+            let mut stores = [[0; STORE_BYTES]; 2];
+            for frame in 0..FRAMES {
+                let lanes = random_lanes(&mut random);
+                let opposite = lanes.map(|byte| !byte);
+                let mut sent = [lanes, opposite].into_iter().zip(&mut stores);
+                let [a, b] = [(); 2].map(|()| {
+                    let (mut lanes, store) = sent.next().unwrap();
+                    permute(&mut lanes, places);
+                    let mut out = [0; LANES_BYTES];
+                    interleave(&lanes, store, &mut out);
+                    words(&out)
+                });
+                for i in 0..FRAME_WORDS {
+                    let [a, b] = [a, b].map(|words| join(words[2 * i], words[2 * i + 1]));
+                    let w = 12 * frame + i / LANES;
+                    let mut fill = 0;
+                    for q in 0..INFORMATION_BITS {
+                        let same = (a ^ b) & only_bit(q) == 0;
+                        let n = (110 * w + usize::from(q)) / 40;
+                        assert_eq!(same, block_source(n as u64).is_none());
+                        fill += usize::from(same);
+                    }
+                    assert_eq!(fill > 0, w < 14, "word {w} of lane {}", i % LANES);
+                }
+            }
+        }
+    }
+
     #[test]
     fn lanes_of_words_bit_by_bit() {
         let mut random = Xorshift::new(16);

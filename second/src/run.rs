@@ -2,7 +2,7 @@
 //! lanes, and so keeps no store.
 
 use crate::account::{
-    count_flags, enter, lose, numbers, opened, tallies, verdict, Account, FAIL, NOT_MEASURED, PASS,
+    enter_flags, lose, numbers, opened, tallies, verdict, Account, FAIL, NOT_MEASURED, PASS,
 };
 use crate::capture::{length, Answer, Order, Reader, FRAME_RECORD, LENGTH_BYTES};
 use crate::lanes::{LANES_BYTES, STORE_BYTES};
@@ -103,7 +103,7 @@ impl Run {
         let mut lanes = [0; LANES_BYTES];
         let mut flags = [0; FRAME_WORDS];
         let (refusal, account) = match receive(symbols, &mut store, &mut lanes, &mut flags) {
-            0 => enter(self.account, number, count_flags(&flags)),
+            0 => enter_flags(self.account, number, &flags),
             // All lengths are right, so there is no lock.
             _ => lose(self.account, number),
         };
@@ -297,7 +297,11 @@ mod tests {
     #[test]
     fn a_measured_run_passes_at_the_allowance_and_fails_beyond() {
         let mut frames = sent(62, 3);
+        // All of the first frame is fill, and 64 words of the second.
         hit(&mut frames[0], 0..100, 1);
+        hit(&mut frames[0], 370..384, 3);
+        hit(&mut frames[1], 0..64, 3);
+        hit(&mut frames[1], 64..67, 1);
         hit(&mut frames[1], 200..250, 2);
         hit(&mut frames[1], 250..257, 3);
         hit(&mut frames[2], 380..384, 3);
@@ -316,13 +320,89 @@ mod tests {
                     capture.extend(frame_record(start.wrapping_add(n), frame));
                 }
                 let run = Run::of(&capture);
-                // 284 + 327 + 378 clean words.
-                let numbers = [3, 3, 0, 989, 102, 50, 11];
+                // 260 + 378 clean words.
+                let numbers = [3, 3, 0, 638, 5, 50, 11];
                 assert_eq!(run.report(), text(numbers, verdict));
-                assert_eq!(
-                    (run.stop, run.account.expected),
-                    (None, start.wrapping_add(3))
-                );
+                let Account {
+                    expected,
+                    start: kept,
+                    ..
+                } = run.account;
+                let right = (None, start.wrapping_add(3), start);
+                assert_eq!((run.stop, expected, kept), right);
+            }
+        }
+    }
+
+    /// However many words of it are flagged, and however few are allowed.
+    #[test]
+    fn fill_decides_nothing() {
+        let mut frames = sent(73, 2);
+        let report = |frames: &[Symbols]| {
+            let mut capture = order(u32::MAX, 2, 0);
+            capture.extend(frame_record(u32::MAX, &frames[0]));
+            capture.extend(frame_record(0, &frames[1]));
+            Run::of(&capture).report()
+        };
+        hit(&mut frames[0], 0..384, 3);
+        hit(&mut frames[1], 0..64, 3);
+        assert_eq!(report(&frames), text([2, 2, 0, 320, 0, 0, 0], "PASS"));
+        // The next word is tallied.
+        hit(&mut frames[1], 64..65, 3);
+        assert_eq!(report(&frames), text([2, 2, 0, 319, 0, 0, 1], "FAIL"));
+    }
+
+    /// It is all fill, and there is nothing to measure; with another frame there is one too many.
+    #[test]
+    fn an_order_for_one_frame_is_never_measured() {
+        let mut frames = sent(74, 2);
+        for flips in [0, 1, 3] {
+            hit(&mut frames[0], 5..9, flips);
+            for start in [0, 7, u32::MAX] {
+                for allowed in [0, 384, u32::MAX] {
+                    let mut capture = order(start, 1, allowed);
+                    capture.extend(frame_record(start, &frames[0]));
+                    let run = Run::of(&capture);
+                    let one = [1, 1, 0, 0, 0, 0, 0];
+                    assert_eq!(run.report(), text(one, "NOT MEASURED"));
+                    capture.extend(frame_record(start.wrapping_add(1), &frames[1]));
+                    let run = Run::of(&capture);
+                    let two = [1, 2, 0, 320, 0, 0, 0];
+                    assert_eq!(run.report(), text(two, "NOT MEASURED"));
+                    assert_eq!(run.stop, None);
+                }
+            }
+        }
+    }
+
+    /// Its number decides which words of a frame are fill, not how many frames came before it.
+    #[test]
+    fn the_start_frame_lost_or_missing() {
+        let frames = sent(75, 3);
+        let mut lost = frames[0];
+        spoil_pilots(&mut lost, 25);
+        for start in [0, 1, 500, u32::MAX - 1, u32::MAX] {
+            let record = |n: u32| {
+                let symbols = &frames[n as usize];
+                frame_record(start.wrapping_add(n), symbols)
+            };
+            let no_lock = |n| frame_record(start.wrapping_add(n), &lost);
+            for (records, accepted, missing, clean) in [
+                (vec![no_lock(0), record(1)], 1, 1, 320),
+                (vec![record(1)], 1, 1, 320),
+                (vec![record(1), record(2)], 2, 1, 704),
+                (vec![no_lock(0), record(1), record(2)], 2, 1, 704),
+                (vec![no_lock(0), record(2)], 1, 2, 384),
+                (vec![no_lock(0), no_lock(1), record(2)], 1, 2, 384),
+                (vec![no_lock(1), record(2)], 1, 2, 384),
+                (vec![record(2)], 1, 2, 384),
+                (vec![record(0), record(2)], 2, 1, 384),
+                (vec![record(0), no_lock(1), record(2)], 2, 1, 384),
+            ] {
+                let run = Run::of(&[order(start, accepted as u32, 0), records.concat()].concat());
+                let numbers = [accepted, accepted, missing, clean, 0, 0, 0];
+                assert_eq!(run.report(), text(numbers, "NOT MEASURED"));
+                assert_eq!((run.stop, run.account.start), (None, start));
             }
         }
     }
@@ -336,7 +416,7 @@ mod tests {
         for (symbols, number) in frames.iter().zip(5..) {
             assert!(run.take(Answer::Frame { number, symbols }));
         }
-        let numbers = [3, 2, 1, 768, 0, 0, 0];
+        let numbers = [3, 2, 1, 384, 0, 0, 0];
         assert_eq!(run.report(), text(numbers, "NOT MEASURED"));
         assert_eq!(run.stop, None);
     }
@@ -360,7 +440,7 @@ mod tests {
                 assert_eq!(receive(frame, &mut store, &mut lanes, &mut flags), right);
                 assert_eq!(store == before, right == 5);
                 let entered = match right {
-                    0 => enter(account, number, count_flags(&flags)),
+                    0 => enter_flags(account, number, &flags),
                     _ => lose(account, number),
                 };
                 assert_eq!(entered.0, 0);
@@ -376,8 +456,10 @@ mod tests {
     #[test]
     fn a_capture_examined_in_one_call() {
         let mut frames = sent(72, 2);
-        hit(&mut frames[0], 0..2, 1);
-        hit(&mut frames[1], 7..8, 3);
+        hit(&mut frames[0], 0..384, 3);
+        hit(&mut frames[1], 63..64, 3);
+        hit(&mut frames[1], 64..66, 1);
+        hit(&mut frames[1], 200..201, 3);
         let mut lost = frames[1];
         spoil_pilots(&mut lost, 25);
         let records = |allowed, second: &Symbols| {
@@ -385,13 +467,13 @@ mod tests {
             [order(3, 2, allowed), first, frame_record(4, second)].concat()
         };
         let (pass, fail) = (records(1, &frames[1]), records(0, &frames[1]));
-        let measured = [2, 2, 0, 765, 2, 0, 1];
+        let measured = [2, 2, 0, 317, 2, 0, 1];
         let none = NOT_MEASURED;
         for (capture, numbers, verdict) in [
             (vec![], [0; 7], none),
             (pass.clone(), measured, PASS),
             (fail.clone(), measured, FAIL),
-            (records(1, &lost), [2, 1, 1, 382, 2, 0, 0], none),
+            (records(1, &lost), [2, 1, 1, 0, 0, 0, 0], none),
             // Behind what was measured: a byte, half a record, a second order, the last frame again.
             ([&pass[..], &[0]].concat(), measured, none),
             ([&fail[..], &pass[..9]].concat(), measured, none),
@@ -447,7 +529,7 @@ mod tests {
         ]
         .concat();
         let before = Run::of(&measured);
-        let numbers = [2, 2, 0, 768, 0, 0, 0];
+        let numbers = [2, 2, 0, 320, 0, 0, 0];
         assert_eq!(before.report(), text(numbers, "PASS"));
         for (record, stop) in stops {
             let mut run = Run::of(&[&measured[..], &record].concat());
@@ -499,29 +581,35 @@ mod tests {
         }
     }
 
-    /// What follows an order of one frame and the frame, and what accepted and missing then are.
+    /// What follows an order of two frames and the frames, and what accepted and missing then are.
     #[test]
     fn anything_after_the_frames_asked_for_is_not_measured() {
-        let frames = sent(67, 2);
-        let mut lost = frames[1];
+        let frames = sent(67, 3);
+        let mut lost = frames[2];
         spoil_pilots(&mut lost, 25);
-        let measured = [order(0, 1, 0), frame_record(0, &frames[0])].concat();
+        let measured = [
+            order(0, 2, 0),
+            frame_record(0, &frames[0]),
+            frame_record(1, &frames[1]),
+        ]
+        .concat();
         assert_eq!(Run::of(&measured).verdict(), PASS);
         for (more, accepted, missing) in [
+            (frame_record(2, &frames[2]), 3, 0),
+            (frame_record(3, &frames[2]), 3, 1),
             (frame_record(1, &frames[1]), 2, 0),
-            (frame_record(2, &frames[1]), 2, 1),
-            (frame_record(0, &frames[0]), 1, 0),
-            (frame_record(1, &lost), 1, 1),
-            (frame_record(3, &lost), 1, 3),
-            (frame_record(0, &lost), 1, 0),
-            (order(0, 1, 0), 1, 0),
-            (vec![0], 1, 0),
-            (vec![0; 3], 1, 0),
-            (vec![0; 4], 1, 0),
-            (vec![0, 0, 0, 14], 1, 0),
+            (frame_record(0, &frames[0]), 2, 0),
+            (frame_record(2, &lost), 2, 1),
+            (frame_record(4, &lost), 2, 3),
+            (frame_record(1, &lost), 2, 0),
+            (order(0, 2, 0), 2, 0),
+            (vec![0], 2, 0),
+            (vec![0; 3], 2, 0),
+            (vec![0; 4], 2, 0),
+            (vec![0, 0, 0, 14], 2, 0),
         ] {
             let run = Run::of(&[&measured[..], &more].concat());
-            let numbers = [1, accepted, missing, 384 * accepted, 0, 0, 0];
+            let numbers = [2, accepted, missing, 384 * accepted - 448, 0, 0, 0];
             assert_eq!(run.report(), text(numbers, "NOT MEASURED"));
         }
     }
@@ -529,12 +617,12 @@ mod tests {
     #[test]
     fn orders_that_cannot_pass() {
         let frame = frame_record(0, &sent(68, 1)[0]);
-        for asked in [0, 2, 1_000_001, u32::MAX] {
+        for asked in [0, 1, 2, 1_000_001, u32::MAX] {
             let lone = Run::of(&order(0, asked, u32::MAX));
             let none = [asked.into(), 0, 0, 0, 0, 0, 0];
             assert_eq!(lone.report(), text(none, "NOT MEASURED"));
             let run = Run::of(&[&order(0, asked, u32::MAX)[..], &frame].concat());
-            let one = [asked.into(), 1, 0, 384, 0, 0, 0];
+            let one = [asked.into(), 1, 0, 0, 0, 0, 0];
             assert_eq!(run.report(), text(one, "NOT MEASURED"));
             assert_eq!((lone.stop, run.stop), (None, None));
         }
@@ -542,8 +630,8 @@ mod tests {
 
     /// A run kept in whole numbers without a width, by the scope's own words.
     struct Kept {
-        /// Asked and allowed.
-        order: Option<(u32, u32)>,
+        /// Start, asked and allowed.
+        order: Option<(u32, u32, u32)>,
         expected: i128,
         numbers: [i128; 6],
         stopped: bool,
@@ -558,29 +646,37 @@ mod tests {
                 self.stopped = true;
                 return;
             }
-            self.order = Some((asked, allowed));
+            self.order = Some((start, asked, allowed));
             self.expected = start.into();
         }
 
-        /// A frame's tallies, or none where there is no lock.
-        fn frame(&mut self, number: u32, frame: Option<[i128; 4]>) {
+        /// The flags of a frame's words, or none where there is no lock.
+        fn frame(&mut self, number: u32, flags: Option<[u8; 384]>) {
             if self.stopped {
                 return;
             }
+            let Some((start, ..)) = self.order else {
+                self.stopped = true;
+                return;
+            };
             let round = 1i128 << 32;
             let d = (i128::from(number) - self.expected).rem_euclid(round);
             let mut after = self.numbers;
-            match frame {
-                Some(tallies) => {
+            match flags {
+                Some(flags) => {
                     after[0] += 1;
                     after[1] += d;
-                    for (number, tally) in after[2..].iter_mut().zip(tallies) {
-                        *number += tally;
+                    // The words of a lane are counted from the start on; 0 to 13 carry fill.
+                    let first = 12 * (i128::from(number) - i128::from(start)).rem_euclid(round);
+                    for (place, flag) in flags.into_iter().enumerate() {
+                        if first + place as i128 / 32 > 13 {
+                            after[2 + usize::from(flag)] += 1;
+                        }
                     }
                 }
                 None => after[1] += d + 1,
             }
-            if self.order.is_none() || d >= round / 2 || after[1] > 1_000_000 {
+            if d >= round / 2 || after[1] > 1_000_000 {
                 self.stopped = true;
                 return;
             }
@@ -589,9 +685,15 @@ mod tests {
         }
 
         fn report(&self) -> String {
-            let (asked, allowed) = self.order.unwrap_or((0, 0));
-            let [accepted, missing, .., flagged] = self.numbers;
-            let measured = !self.stopped && asked > 0 && accepted == asked.into() && missing == 0;
+            let (_, asked, allowed) = self.order.unwrap_or((0, 0, 0));
+            let [accepted, missing, tallies @ ..] = self.numbers;
+            let flagged = tallies[3];
+            let total: i128 = tallies.iter().sum();
+            let measured = !self.stopped
+                && asked > 1
+                && accepted == asked.into()
+                && missing == 0
+                && total == 384 * accepted - 448;
             let verdict = match (measured, flagged <= allowed.into()) {
                 (false, _) => "NOT MEASURED",
                 (true, true) => "PASS",
@@ -609,19 +711,24 @@ mod tests {
     #[test]
     fn arbitrary_runs_follow_the_rule() {
         let mut frames = sent(69, 5);
-        hit(&mut frames[1], 0..3, 1);
-        hit(&mut frames[1], 3..5, 2);
-        hit(&mut frames[2], 100..101, 3);
-        spoil_pilots(&mut frames[2], 24);
-        hit(&mut frames[3], 0..384, 2);
-        spoil_pilots(&mut frames[4], 25);
-        let of_frames = [
-            Some([384, 0, 0, 0]),
-            Some([379, 3, 2, 0]),
-            Some([383, 0, 0, 1]),
-            Some([0, 0, 384, 0]),
-            None,
+        // About the first tallied word of the second frame, 64, and elsewhere.
+        let damage = [
+            vec![],
+            vec![(62..65, 1), (100..102, 2)],
+            vec![(0..1, 3), (63..66, 3), (383..384, 3)],
+            vec![(0..384, 2)],
+            vec![],
         ];
+        let mut of_frames = [Some([0; 384]); 5];
+        for ((frame, flags), damage) in frames.iter_mut().zip(&mut of_frames).zip(damage) {
+            for (words, flips) in damage {
+                hit(frame, words.clone(), flips);
+                flags.as_mut().unwrap()[words].fill(flips as u8);
+            }
+        }
+        spoil_pilots(&mut frames[2], 24);
+        spoil_pilots(&mut frames[4], 25);
+        of_frames[4] = None;
 
         let mut random = Xorshift::new(70);
         let mut seen = [0; 4];
@@ -640,7 +747,7 @@ mod tests {
                         let starts = [0, 9, u32::MAX, u32::MAX - 1, random.next_u64() as u32];
                         let start = starts[random.below(5) as usize];
                         let asked = pieces as u32 - 1 + (random.below(8) / 7) as u32;
-                        let allowed = random.below(3) as u32;
+                        let allowed = random.below(6) as u32;
                         capture.extend(order(start, asked, allowed));
                         kept.order(start, asked, allowed);
                     }
@@ -763,7 +870,8 @@ mod tests {
                 _ if cut < whole => 1,
                 _ => 2,
             };
-            let numbers = [asked, accepted, 0, 384 * accepted, 0, 0, 0];
+            let clean = if accepted == 2 { 320 } else { 0 };
+            let numbers = [asked, accepted, 0, clean, 0, 0, 0];
             assert_eq!(run.report(), text(numbers, "NOT MEASURED"));
         }
     }

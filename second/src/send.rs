@@ -146,8 +146,10 @@ pub fn send_by_rule(input: &[u8], store: &mut [u8], output: &mut [u8]) -> u32 {
 #[cfg(test)]
 mod tests {
     use super::*;
+    use crate::account::fill_words;
     use crate::lanes::block_source;
-    use crate::word::{is_code_word, only_bit};
+    use crate::symbols::frame_words;
+    use crate::word::{is_code_word, join, only_bit};
     use crate::xorshift::Xorshift;
 
     type Way = fn(&[u8], &mut [u8], &mut [u8]) -> u32;
@@ -279,6 +281,30 @@ mod tests {
                     Some(from) => assert!(block == &came_in[p][40 * from as usize..][..40]),
                     None => assert!(block.iter().all(|&bit| !bit)),
                 }
+            }
+        }
+    }
+
+    /// Two runs from fresh stores over lanes of which every bit differs: the words in which they agree
+    /// anywhere carry fill, and are those that an account does not tally.
+    #[test]
+    fn sent_words_with_fill() {
+        let mut random = Xorshift::new(38);
+        let mut stores = [[0; STORE_BYTES]; 2];
+        for number in 0..5 {
+            let lanes = random.bytes(5_280);
+            let opposite = lanes.iter().map(|byte| !byte).collect();
+            let mut sent = vec![];
+            for (lanes, store) in [lanes, opposite].iter().zip(&mut stores) {
+                let mut frame = [0; 6_144];
+                assert_eq!(send(lanes, store, &mut frame), 0);
+                sent.push(frame_words(&frame));
+            }
+            for i in 0..384 {
+                let [a, b] = [&sent[0], &sent[1]].map(|words| join(words[2 * i], words[2 * i + 1]));
+                let information = (1 << 110) - 1;
+                let fill = (a ^ b) >> 16 & information != information;
+                assert_eq!(fill, i < fill_words(0, number), "frame {number}, word {i}");
             }
         }
     }

@@ -1,13 +1,15 @@
--- What the contracts of `enter` and `lose` forbid, at named inputs: a refused entry that moves the expected number, one that is taken and changes nothing,
--- and lateness that begins elsewhere than half the way round.
+-- What the contracts of `enter`, `lose` and `verdict_of` forbid, at named inputs: a refused entry that moves the expected number, one that is taken and changes
+-- nothing, lateness that begins elsewhere than half the way round, and a right total by a subtraction that stops at 0.
 -- Assumes nothing.
 use mathlib.Core.Path.{_≡_, ap}
+use mathlib.Core.Bool.{false}
 use mathlib.Core.Logic.{_≢_}
 use Prim.Native.Nat.{ℕ, _+_, _^_}
 use native.Mathlib.Omega.{arith}
-use Rattle.account.specs.definitions.Account.{opened, ahead, over, frameEntered, lossEntered}
+use Rattle.account.specs.definitions.Account.{noWords, opened, ahead, over, frameEntered, lossEntered, measured, verdict, verdictNumber}
 use Rattle.account.specs.declared.Entry.{Entry}
 use Rattle.account.specs.declared.Tallies.{Tallies}
+use Rattle.account.specs.declared.Verdict.the-variants.{Pass}
 
 -- all the words of a frame are clean
 abbrev clean : Tallies
@@ -18,8 +20,8 @@ pub refused-moves : record { refusal = 10; account = opened 6 } ≡ frameEntered
 unfolding frameEntered ahead over
 refused-moves e = let f : _≡_ {A = ℕ} 6 5 = ap (λ (x : Entry). x .account .expected) e in omega arith
 
--- frame 5 comes when it is expected
-pub taken-stays : record { refusal = 0; account = opened 5 } ≡ frameEntered (opened 5) 5 clean → ⊥
+-- frame 5 comes when it is expected, the first, which brings no words
+pub taken-stays : record { refusal = 0; account = opened 5 } ≡ frameEntered (opened 5) 5 noWords → ⊥
 unfolding frameEntered ahead over
 taken-stays e = let f : _≡_ {A = ℕ} 5 6 = ap (λ (x : Entry). x .account .expected) e in omega arith
 
@@ -37,3 +39,8 @@ before-half-not-late e = (λ f z. eleven (ap (λ (x : Entry). x .refusal) f) z, 
   where
     eleven : e .refusal ≡ 11 → e .refusal ≡ 10 → ⊥
     eleven f z = omega arith
+
+-- one frame was ordered and accepted, with no words, as is due to the first: 384 less 448, stopped at 0, would be its total, and it would pass
+pub one-accepted-passes : Pass ≡ verdict 1 0 (record { expected = 6; start = 5; accepted = 1; missing = 0; words = noWords }) false → ⊥
+unfolding verdict measured verdictNumber
+one-accepted-passes e = let f : _≡_ {A = ℕ} 1 0 = ap verdictNumber e in omega arith

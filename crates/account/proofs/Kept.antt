@@ -1,24 +1,20 @@
--- `KeptFromOrder`, by whether an entry is refused; `RefusedKeeps` and `Brings`.
+-- `KeptFromOrder`, by whether an entry is refused; and `RefusedKeeps`.
 -- Assumes nothing.
-use mathlib.Core.Path.{_≡_, refl}
+use mathlib.Core.Path.{_≡_, refl, sym, subst}
 use mathlib.Core.Logic.{_≢_}
-use mathlib.Core.Bool.{Bool, true, false, cond, _&&_}
-use mathlib.Core.List.{List}
-use Prim.Native.Nat.{ℕ, zero, suc, _+_, _*_, _%_, _^_, _≤_, _<_}
-use native.Mathlib.Nat.{le-refl}
+use mathlib.Core.Bool.{Bool, true, false, cond}
+use Prim.Native.Nat.{ℕ, zero, suc, _+_, _%_, _^_, _<_}
 use native.Mathlib.Decide.{ℕ-discrete}
 use native.Mathlib.Omega.{arith}
-use lib.Dec.{eqb}
-use lib.ListN.{getD}
 use borrow.Author.Tests.{ne-eqb}
-use Rattle.bits.specs.definitions.Bits.{count}
-use Rattle.account.specs.definitions.Account.{total, noWords, counted, ahead, grown, over, frameEntered, lossEntered}
-use Rattle.account.specs.definitions.Kept.{Follows, accountAfter}
-use Rattle.account.specs.statements.Kept.{KeptFromOrder, RefusedKeeps, Brings}
+use Rattle.account.specs.definitions.Account.{ahead, frameEntered, lossEntered}
+use Rattle.account.specs.definitions.Kept.{accountAfter}
+use Rattle.account.specs.statements.Kept.{KeptFromOrder, RefusedKeeps}
 use Rattle.account.specs.declared.Account.{Account}
 use Rattle.account.specs.declared.Entry.{Entry}
 use Rattle.account.specs.declared.Tallies.{Tallies}
 use Rattle.account.proofs.AcceptedEntry.{frame-taken, loss-taken}
+use Rattle.account.proofs.Totals.{InTurn, opened-in-turn, frame-in-turn, loss-in-turn}
 
 -- ---- one entry
 
@@ -31,61 +27,57 @@ next-number : (start n e got : ℕ) → e ≡ (start + n) % 2 ^ 32 → got < 2 ^
 unfolding ahead
 next-number start n e got h l = omega arith
 
-module _ (start : ℕ) (a : Account) (got : ℕ) (l : got < 2 ^ 32) (F : Follows start a) where
-  -- with so many frames more accepted and missing, one and the d before it, and the tallies of those accepted
-  follows : (k m : ℕ) (t : Tallies) → k + m ≡ 1 + ahead got (a .expected) → total t ≡ 384 * k → over (grown a got k m t) ≡ false
-      → Follows start (grown a got k m t)
-  follows k m t d e u =
-      let n = next-number start (a .accepted + a .missing) (a .expected) got (let z = F .numbers in omega arith) l in
-      record { totals = let s = F .totals in omega arith; numbers = omega (arith, n); within = u }
+-- what an account keeps, where an entry is refused or taken
+entry-keeps : (P : Account → Type 0) (a : Account) (e : Entry) → P a → (e .refusal ≢ 0 → e .account ≡ a) → (e .refusal ≡ 0 → P (e .account))
+    → P (e .account)
+entry-keeps P a e p old new = go (ℕ-discrete (e .refusal) 0)
+  where
+    go : Dec (e .refusal ≡ 0) → P (e .account)
+    go (yes z) = new z
+    go (no n) = subst P (sym (old n)) p
 
-  -- an entry that is refused leaves the account
-  kept : (e : Entry) → (e .refusal ≢ 0 → e .account ≡ a) → (e .refusal ≡ 0 → Follows start (e .account)) → Follows start (e .account)
-  kept e old new = go (ℕ-discrete (e .refusal) 0)
-    where
-      go : Dec (e .refusal ≡ 0) → Follows start (e .account)
-      go (yes z) = new z
-      go (no n) = rw (old n) F
+-- the account follows on, and its frames come in their turn
+abbrev Kept : ℕ → Account → Type 0
+Kept start a = (a .start ≡ start) × (a .expected ≡ (start + a .accepted + a .missing) % 2 ^ 32) × InTurn a
 
-  frame-kept : (t : Tallies) → Follows start (frameEntered a got t .account)
+module _ (start : ℕ) (a : Account) (got : ℕ) (l : got < 2 ^ 32) (K : Kept start a) where
+  -- one frame more, accepted or missing, and the d before it
+  numbers-on : (k m : ℕ) → k + m ≡ 1 + ahead got (a .expected) → (got + 1) % 2 ^ 32 ≡ (start + (a .accepted + k) + (a .missing + m)) % 2 ^ 32
+  numbers-on k m d = let n = next-number start (a .accepted + a .missing) (a .expected) got (let z = K .1 in omega arith) l in omega arith
+
+  frame-kept : (t : Tallies) → Kept start (frameEntered a got t .account)
   frame-kept t =
-      kept (frameEntered a got t) (refused-keeps a got .0 t)
-      (λ z. let T = frame-taken a got t z in rw (T .taken) (follows 1 (ahead got (a .expected)) t refl (T .all-due) (T .within)))
+      entry-keeps (Kept start) a (frameEntered a got t) K (refused-keeps a got .0 t)
+      (λ z. (
+        rw (frame-taken a got t z .taken) (K .0),
+        rw (frame-taken a got t z .taken) (numbers-on 1 (ahead got (a .expected)) refl),
+        frame-in-turn a got (K .2) t z,
+      ))
 
-  loss-kept : Follows start (lossEntered a got .account)
+  loss-kept : Kept start (lossEntered a got .account)
   loss-kept =
-      kept (lossEntered a got) (refused-keeps a got .1)
-      (λ z. let T = loss-taken a got z in rw (T .taken) (follows 0 (ahead got (a .expected) + 1) noWords (omega arith) refl (T .within)))
+      entry-keeps (Kept start) a (lossEntered a got) K (refused-keeps a got .1)
+      (λ z. (
+        rw (loss-taken a got z .taken) (K .0),
+        rw (loss-taken a got z .taken) (numbers-on 0 (ahead got (a .expected) + 1) (omega arith)),
+        loss-in-turn a got (K .2) z,
+      ))
 
 -- ---- from a new order on
 
+module _ (start : ℕ) (got : ℕ → ℕ) (lost : ℕ → Bool) (tallies : ℕ → Tallies) (h : start < 2 ^ 32) (l : (f : ℕ) → got f < 2 ^ 32) where
+  kept-so-far : (f : ℕ) → Kept start (accountAfter start got lost tallies f)
+  unfolding accountAfter
+  kept-so-far zero = (refl, omega arith, opened-in-turn start)
+  kept-so-far (suc f) = go (lost f) (kept-so-far f)
+    where
+      a : Account
+      a = accountAfter start got lost tallies f
+
+      go : (b : Bool) → Kept start a → Kept start (cond b (lossEntered a (got f)) (frameEntered a (got f) (tallies f)) .account)
+      go true K = loss-kept start a (got f) (l f) K
+      go false K = frame-kept start a (got f) (l f) K (tallies f)
+
 pub kept-from-order : KeptFromOrder
-unfolding accountAfter over
-kept-from-order start got lost tallies h l zero = record { totals = refl; numbers = omega arith; within = refl }
-kept-from-order start got lost tallies h l (suc f) = go (lost f) (kept-from-order start got lost tallies h l f)
-  where
-    go : (b : Bool) → Follows start (accountAfter start got lost tallies f)
-        → Follows start (cond b (lossEntered (accountAfter start got lost tallies f) (got f)) (frameEntered (accountAfter start got lost tallies f) (got f)
-        (tallies f)) .account)
-    go true F = loss-kept start (accountAfter start got lost tallies f) (got f) (l f) F
-    go false F = frame-kept start (accountAfter start got lost tallies f) (got f) (l f) F (tallies f)
-
--- ---- four flags, and each word has one
-
-one-of-four : (x : ℕ) → x ≤ 3 → _≡_ {A = ℕ} (cond (eqb x 0) 1 0 + cond (eqb x 1) 1 0 + cond (eqb x 2) 1 0 + cond (eqb x 3) 1 0) 1
-one-of-four zero h = refl
-one-of-four (suc zero) h = refl
-one-of-four (suc (suc zero)) h = refl
-one-of-four (suc (suc (suc zero))) h = refl
-one-of-four (suc (suc (suc (suc x)))) h = absurd (omega arith)
-
-in-all : (flags : List ℕ) (n : ℕ) → ((word : ℕ) → word < n → getD flags word 0 ≤ 3)
-    → count (λ w. true && eqb (getD flags w 0) 0) n + count (λ w. true && eqb (getD flags w 0) 1) n + count (λ w. true && eqb (getD flags w 0) 2) n + count
-    (λ w. true && eqb (getD flags w 0) 3) n ≡ n
-unfolding count
-in-all flags zero h = refl
-in-all flags (suc n) h = omega (arith, one-of-four (getD flags n 0) (h n (le-refl (suc n))), in-all flags n (λ w l. h w (omega arith)))
-
-pub brings : Brings
-unfolding counted
-brings a got flags h = in-all flags 384 h
+kept-from-order start got lost tallies h l f =
+    let K = kept-so-far start got lost tallies h l f in record { starts = K .0; totals = K .2 .totals; numbers = K .1; within = K .2 .within }

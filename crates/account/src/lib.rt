@@ -1,12 +1,12 @@
 // The account of a run and its verdict: what each frame changes, and what may be said in the end.
 ghost use mathlib.Core.Path.{_≡_};
-ghost use mathlib.Core.Bool.{false, cond};
+ghost use mathlib.Core.Bool.{false, cond, _&&_};
 ghost use Prim.Native.Nat.{_+_, _^_, _<_, _≤_};
-ghost use lib.Dec.{eqb, ltb};
+ghost use lib.Dec.{eqb, leb, ltb};
 ghost use lib.ListN.{length, getD};
 ghost use Rattle.bits.specs.definitions.Bits.{count};
-ghost use Rattle.account.specs.definitions.Account.{tallyLimit, talliesOf, ahead, late, opened, total, added, grown, framesOver, wordsOver, over, answer};
-ghost use Rattle.account.specs.definitions.Account.{frameEntered, lossEntered, measured, verdict, verdictNumber};
+ghost use Rattle.account.specs.definitions.Account.{tallyLimit, ahead, byNumber, talliesOf, total, added, opened, late, grown, framesOver, wordsOver};
+ghost use Rattle.account.specs.definitions.Account.{over, answer, frameEntered, lossEntered, measured, verdict, verdictNumber};
 
 // How many words had 0, 1 or 2 bits mended, or were flagged.
 #[repr(C)]
@@ -17,10 +17,11 @@ pub struct Tallies {
     pub flagged: u64,
 }
 
-// The next expected number, frames accepted and missing, and the tallies of their words.
+// The next expected number, the order's start number, frames accepted and missing, and the tallies of their words.
 #[repr(C)]
 pub struct Account {
     pub expected: u32,
+    pub start: u32,
     pub accepted: u64,
     pub missing: u64,
     pub words: Tallies,
@@ -48,11 +49,17 @@ const TALLY_LIMIT: u64 = 384000000;
 // Half the way round 2^32.
 const HALF: u32 = 1 << 31;
 
-// The words that a frame must bring.
-const DUE: u64 = 384;
+// The words of a frame.
+const WORDS: u64 = 384;
 
-// The words tallied of an accepted frame.
-const TALLIED: u64 = 384;
+// Those of the number after the start number that carry fill: words 0 and 1 of each lane.
+const NEXT_FILL: u64 = 64;
+
+// Those of it that are tallied.
+const NEXT_TALLIED: u64 = 320;
+
+// Those of a run that carry fill: all of the frame at the start number, and 64 of the next.
+const FILL: u64 = 448;
 
 // 1 where two bytes are the same, else 0.
 fn same(x: u8, v: u8) -> u64
@@ -64,13 +71,13 @@ fn same(x: u8, v: u8) -> u64
     0
 }
 
-// How many of the flag bytes are v.
-fn count_flags(flags: &[u8], v: u8) -> u64
-    requires { ⌜ length (now flags) ≡ 384 ⌝ }
-    ensures { λ r. ⌜ r ≡ count (λ word. eqb (getD (now (flags .entry)) word 0) v) 384 ⌝ }
+// How many of the flag bytes from a place on are v.
+fn count_flags(flags: &[u8], first: usize, v: u8) -> u64
+    requires { ⌜ (length (now flags) ≡ 384) × (first ≤ 384) ⌝ }
+    ensures { λ r. ⌜ r ≡ count (λ word. leb first word && eqb (getD (now (flags .entry)) word 0) v) 384 ⌝ }
 {
     let mut n: u64 = 0;
-    let mut i: usize = 0;
+    let mut i: usize = first;
     while i < 384 {
         n += same(flags[i], v);
         i += 1;
@@ -78,14 +85,43 @@ fn count_flags(flags: &[u8], v: u8) -> u64
     n
 }
 
-// The tallies that a frame's flag bytes bring to an account: every word's, whatever the account and the frame's number.
+// How far a frame's number lies after another number, round 2^32.
+fn ahead(got: u32, from: u32) -> u32
+    ensures { λ r. ⌜ r ≡ ahead got from ⌝ }
+{
+    std::num::wrapping_sub_u32(got, from)
+}
+
+// One of three, by a frame's number: at the account's start number, at the next one, at every other.
+fn by_number(a: Account, got: u32, first: u64, second: u64, later: u64) -> u64
+    ensures { λ r. ⌜ r ≡ byNumber a got first second later ⌝ }
+{
+    let d = ahead(got, a.start);
+    if d == 0 {
+        return first;
+    }
+    if d == 1 {
+        return second;
+    }
+    later
+}
+
+// The flag place from which on a frame's words are tallied.
+fn first_tallied(a: Account, got: u32) -> usize
+    ensures { λ r. ⌜ (r ≡ byNumber a got 384 64 0) × (r ≤ 384) ⌝ }
+{
+    by_number(a, got, WORDS, NEXT_FILL, 0) as usize
+}
+
+// The tallies that a frame's flag bytes bring to an account: those of the words tallied, by the frame's number.
 pub fn tallies_of(a: Account, got: u32, flags: &[u8; 384]) -> Tallies
     ensures { λ r. ⌜ r ≡ talliesOf a got (now (flags .entry)) ⌝ }
 {
-    let clean = count_flags(flags, 0);
-    let one = count_flags(flags, 1);
-    let two = count_flags(flags, 2);
-    let flagged = count_flags(flags, 3);
+    let first = first_tallied(a, got);
+    let clean = count_flags(flags, first, 0);
+    let one = count_flags(flags, first, 1);
+    let two = count_flags(flags, first, 2);
+    let flagged = count_flags(flags, first, 3);
     Tallies {
         clean,
         one,
@@ -100,6 +136,7 @@ pub fn opened(start: u32) -> Account
 {
     Account {
         expected: start,
+        start,
         accepted: 0,
         missing: 0,
         words: Tallies {
@@ -109,13 +146,6 @@ pub fn opened(start: u32) -> Account
             flagged: 0,
         },
     }
-}
-
-// How far a frame's number lies after the expected one, round 2^32.
-fn ahead(got: u32, expected: u32) -> u32
-    ensures { λ r. ⌜ r ≡ ahead got expected ⌝ }
-{
-    std::num::wrapping_sub_u32(got, expected)
 }
 
 // Whether x + y is above the limit, with no sum that could wrap.
@@ -193,6 +223,7 @@ fn grown(a: Account, got: u32, accepted: u64, missing: u64, t: Tallies) -> Accou
     let w = a.words;
     Account {
         expected: std::num::wrapping_add_u32(got, 1),
+        start: a.start,
         accepted: a.accepted + accepted,
         missing: a.missing + missing,
         words: added(w, t),
@@ -233,13 +264,14 @@ fn entered(n: u32, a: Account, got: u32, accepted: u64, missing: u64, t: Tallies
     }
 }
 
-// A frame with its tallies. Refused: 10 late, 11 a limit is passed, 12 the tallies are not of the words due.
+// A frame with its tallies. Refused: 10 late, 11 a limit is passed, 12 the tallies are not of the words due to its number.
 pub fn enter(a: Account, got: u32, t: Tallies) -> Entry
     ensures { λ r. ⌜ r ≡ frameEntered a got t ⌝ }
 {
     let d = ahead(got, a.expected);
     let m = bits::wide32(d);
-    let n = refusal_of(d, over(a, 1, m, t), adds_up(t, DUE));
+    let due = by_number(a, got, 0, NEXT_TALLIED, WORDS);
+    let n = refusal_of(d, over(a, 1, m, t), adds_up(t, due));
     entered(n, a, got, 1, m, t)
 }
 
@@ -264,8 +296,11 @@ fn measured(asked: u64, a: Account) -> bool
     requires { ⌜ asked < 2 ^ 32 ⌝ }
     ensures { λ r. ⌜ r ≡ measured asked a ⌝ }
 {
-    let right = adds_up(a.words, TALLIED * asked);
-    (0 < asked) & ((a.accepted == asked) & ((a.missing == 0) & right))
+    if asked < 2 {
+        return false;
+    }
+    let right = adds_up(a.words, WORDS * asked - FILL);
+    (a.accepted == asked) & ((a.missing == 0) & right)
 }
 
 // The verdict on numbers, and on whether the run was stopped.

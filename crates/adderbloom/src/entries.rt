@@ -27,7 +27,7 @@ fn enter_flags(a: account::Account, got: u32, flags: &[u8]) -> account::Entry
     account::enter(a, got, t)
 }
 
-// A frame by its flag bytes. Refused: 4 not 384 of them, 10 late, 11 a limit is passed, 12 some are above 3.
+// A frame by its flag bytes. Refused: 4 not 384 of them, 10 late, 11 a limit is passed, 12 some that are tallied are above 3.
 #[no_mangle]
 pub extern "C" fn lr800_account_enter(a: &mut account::Account, got: u32, flags: &[u8]) -> u32
     ensures { λ r. ⌜ record { refusal = r; account = now (a .exit) } ≡ flagsEntered (now (a .entry)) got (now (flags .entry)) ⌝ }

@@ -50,6 +50,7 @@ pub extern "C" fn lr800_verdict(
 ) -> u32
     ensures { λ r. ⌜ r ≡ verdictNumber (verdict asked allowed (record {
       expected = 0;
+      start = 0;
       accepted = accepted;
       missing = missing;
       words = record { clean = clean; one = one; two = two; flagged = flagged };
@@ -63,6 +64,7 @@ pub extern "C" fn lr800_verdict(
     };
     let a = account::Account {
         expected: 0,
+        start: 0,
         accepted,
         missing,
         words,

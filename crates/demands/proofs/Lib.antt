@@ -11,6 +11,7 @@ pub mod LaneCounts
 pub mod Labels
 pub mod ReedSolomon
 pub mod Exceeded
+pub mod Fill
 pub mod Measured
 pub mod Numbers
 pub mod Refusals

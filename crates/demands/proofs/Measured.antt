@@ -1,7 +1,7 @@
 -- A measured capture and its run: frames in their turn are entered one by one, and a run that loses its turn once is never measured.
 -- Assumes nothing.
-use mathlib.Core.Path.{_≡_, refl, sym, ap, _∙_, subst}
-use mathlib.Core.Bool.{Bool, true, false, false≢true}
+use mathlib.Core.Path.{_≡_, refl, sym, ap, ap₂, _∙_, subst}
+use mathlib.Core.Bool.{Bool, true, false, cond, not, _&&_, false≢true}
 use mathlib.Core.Logic.{_≢_, _⊎_, inl, inr}
 use mathlib.Core.List.{List}
 use Prim.Native.Nat.{ℕ, zero, suc, _+_, _*_, _-_, _%_, _^_, _≤_, _<_}
@@ -20,23 +20,33 @@ use Rattle.framing.proofs.Received.{flag-at}
 use Rattle.account.specs.declared.Account.{Account}
 use Rattle.account.specs.declared.Entry.{Entry}
 use Rattle.account.specs.declared.Tallies.{Tallies}
-use Rattle.account.specs.definitions.Account.{frameLimit, total, opened, counted, talliesOf, ahead, over, grown, frameEntered, lossEntered, measured}
+use Rattle.account.specs.declared.Verdict.the-variants.{NotMeasured}
+use Rattle.account.specs.definitions.Account.{frameLimit, ahead, due, counted, talliesOf, total, opened, grown, over, frameEntered, lossEntered}
+use Rattle.account.specs.definitions.Account.{measured, verdict}
 use Rattle.account.proofs.Limits.{under, within}
 use Rattle.account.proofs.AcceptedEntry.{frame-taken, loss-taken, frame-done}
 use Rattle.account.proofs.VerdictMeaning.{measured-means}
-use Rattle.account.proofs.Kept.{brings}
+use Rattle.account.proofs.Fill.{at-start, at-next, at-later, brings, fewer-than-two}
+use Rattle.account.proofs.Totals.{InTurn, opened-in-turn, frame-in-turn, loss-in-turn}
 use Rattle.capture.specs.declared.Read.{Read}
 use Rattle.capture.specs.declared.Read.the-variants.{End, Refused, Order, Frame}
 use Rattle.capture.specs.definitions.Capture.{readAt, nextOf, symbolsAt, frameNumber}
 use Rattle.bench.specs.declared.Run.{Run}
 use Rattle.bench.specs.declared.Phase.{Phase}
 use Rattle.bench.specs.declared.Phase.the-variants.{Unordered, Going, Stopped}
-use Rattle.bench.specs.definitions.Run.{afterEntry, entryOf, framed, orderCame, frameCame, halted, cameAs, goesOn}
+use Rattle.bench.specs.definitions.Run.{begun, going, stopped, afterEntry, entryOf, framed, orderCame, frameCame, halted, cameAs, goesOn, verdictOf}
 use Rattle.bench.specs.definitions.Walk.{walked}
-use Rattle.bench.proofs.Walk.{came-stays, refused-stops}
+use Rattle.bench.proofs.Walk.{walked-one, came-stays, refused-stops}
 use Rattle.demands.specs.definitions.Verdict.{wordsWith, wordsIn}
+use Rattle.demands.proofs.Fill.{tallied-free, turn-is}
 
 -- ---- the words of a frame, counted
+
+abbrev pub frameTallies : ℕ → List ℕ → Tallies
+frameTallies k f = record { clean = wordsWith 0 k f; one = wordsWith 1 k f; two = wordsWith 2 k f; flagged = wordsWith 3 k f }
+
+abbrev pub allTallies : (ℕ → List ℕ) → ℕ → Tallies
+allTallies frames k = record { clean = wordsIn 0 frames k; one = wordsIn 1 frames k; two = wordsIn 2 frames k; flagged = wordsIn 3 frames k }
 
 flag-most : (m : Mend) → flagOf m ≤ 3
 unfolding flagOf
@@ -45,67 +55,91 @@ flag-most (One i) = omega arith
 flag-most (Two i j) = omega arith
 flag-most Flagged = omega arith
 
-counts : (a : Account) (got : ℕ) (f : List ℕ) (v : ℕ) → counted a got (receivedFlags f) v ≡ wordsWith v f
-unfolding counted wordsWith
-counts a got f v = count-cong 384 _ _ (λ i l. ap (λ (x : ℕ). eqb x v) (flag-at f i l))
+-- a frame that was received brings the words that are due to it
+pub words-brought : (a : Account) (got : ℕ) (f : List ℕ) → total (talliesOf a got (receivedFlags f)) ≡ due a got
+words-brought a got f = brings a got (receivedFlags f) .1 (λ i l t. rw (flag-at f i l) (flag-most (mend (arrived f i))))
 
-abbrev pub frameTallies : List ℕ → Tallies
-frameTallies f = record { clean = wordsWith 0 f; one = wordsWith 1 f; two = wordsWith 2 f; flagged = wordsWith 3 f }
+-- frame k of a run, whose number lies k after the start number
+module _ (a : Account) (got k : ℕ) (turn : ahead got (a .start) ≡ k) (f : List ℕ) where
+  counts : (v : ℕ) → counted a got (receivedFlags f) v ≡ wordsWith v k f
+  unfolding counted wordsWith
+  counts v = count-cong 384 _ _ (λ i l. ap₂ _&&_ (tallied-free a got k i turn l) (ap (λ (x : ℕ). eqb x v) (flag-at f i l)))
 
-abbrev pub allTallies : (ℕ → List ℕ) → ℕ → Tallies
-allTallies frames k = record { clean = wordsIn 0 frames k; one = wordsIn 1 frames k; two = wordsIn 2 frames k; flagged = wordsIn 3 frames k }
+  pub tallies-are : talliesOf a got (receivedFlags f) ≡ frameTallies k f
+  tallies-are = rw (counts 0, counts 1, counts 2, counts 3) refl
 
-pub tallies-are : (a : Account) (got : ℕ) (f : List ℕ) → talliesOf a got (receivedFlags f) ≡ frameTallies f
-tallies-are a got f = rw (counts a got f 0, counts a got f 1, counts a got f 2, counts a got f 3) refl
+  pub words-due : total (frameTallies k f) ≡ due a got
+  words-due = ap total (sym tallies-are) ∙ words-brought a got f
 
-pub words-due : (f : List ℕ) → total (frameTallies f) ≡ 384
-words-due f =
-    ap total (sym (tallies-are (opened 0) 0 f)) ∙ brings (opened 0) 0 (receivedFlags f) (λ i l. rw (flag-at f i l) (flag-most (mend (arrived f i))))
+zero-start : (n : ℕ) → n < 2 ^ 32 → ahead n 0 ≡ n
+unfolding ahead
+zero-start n l = omega arith
 
-pub all-words : (frames : ℕ → List ℕ) (k : ℕ) → total (allTallies frames k) ≡ 384 * k
+-- one frame more: the first brings none, the second 320, a later one 384
+one-more : (k : ℕ) (f : List ℕ) → k < 2 ^ 32 → 384 * k - 448 + total (frameTallies k f) ≡ 384 * (k + 1) - 448
+one-more zero f h = let t = zero-start 0 h in let d = words-due (opened 0) 0 0 t f ∙ at-start (opened 0) 0 0 320 384 t in omega arith
+one-more (suc zero) f h = let t = zero-start 1 h in let d = words-due (opened 0) 1 1 t f ∙ at-next (opened 0) 1 0 320 384 t in omega arith
+one-more (suc (suc k)) f h =
+    let n = suc (suc k) in
+    let t = zero-start n h in
+    let d = words-due (opened 0) n n t f ∙ at-later (opened 0) n 0 320 384 (omega arith) in
+    omega arith
+
+-- so many in all
+pub all-words : (frames : ℕ → List ℕ) (k : ℕ) → k ≤ frameLimit → total (allTallies frames k) ≡ 384 * k - 448
 unfolding wordsIn
-all-words frames zero = refl
-all-words frames (suc k) = omega (arith, all-words frames k, words-due (frames k))
+all-words frames zero h = refl
+all-words frames (suc k) h = omega (arith, all-words frames k (omega arith), one-more k (frames k) (omega arith))
 
 -- ---- frames in their turn
 
 module _ (start : ℕ) (frames : ℕ → List ℕ) where
   -- the account after k frames in their turn
   abbrev pub allAccepted : ℕ → Account
-  allAccepted k = record { expected = frameNumber start k; accepted = k; missing = 0; words = allTallies frames k }
+  allAccepted k = record { expected = frameNumber start k; start = start; accepted = k; missing = 0; words = allTallies frames k }
 
   not-ahead : (k : ℕ) → _≡_ {A = ℕ} 0 (ahead (frameNumber start k) (frameNumber start k))
   unfolding ahead
   not-ahead k = omega arith
 
-  next-account : (k : ℕ) → allAccepted (suc k) ≡ grown (allAccepted k) (frameNumber start k) 1 0 (frameTallies (frames k))
+  next-account : (k : ℕ) → allAccepted (suc k) ≡ grown (allAccepted k) (frameNumber start k) 1 0 (frameTallies k (frames k))
   unfolding wordsIn
   next-account k =
       let e : frameNumber start (suc k) ≡ (frameNumber start k + 1) % 2 ^ 32 = omega arith in
       let n : suc k ≡ k + 1 = omega arith in
-      λ i. record { expected = e i; accepted = n i; missing = 0; words = allTallies frames (suc k) }
+      λ i. record { expected = e i; start = start; accepted = n i; missing = 0; words = allTallies frames (suc k) }
 
-  entered-next : (k : ℕ) → k < frameLimit
-      → record { refusal = 0; account = allAccepted (suc k) } ≡ frameEntered (allAccepted k) (frameNumber start k) (frameTallies (frames k))
-  entered-next k h =
-      ap (λ (a : Account). record { refusal = 0; account = a }) (next-account k)
-      ∙ frame-done (allAccepted k) (frameNumber start k) (frameTallies (frames k)) 0 (not-ahead k) refl limits (words-due (frames k))
-    where
-      limits : over (grown (allAccepted k) (frameNumber start k) 1 0 (frameTallies (frames k))) ≡ false
-      limits =
-          let a = all-words frames k in
-          let d = words-due (frames k) in
-          within (grown (allAccepted k) (frameNumber start k) 1 0 (frameTallies (frames k))) (omega arith) (omega arith) (omega arith) (omega arith)
-          (omega arith) (omega arith)
+  module _ (hs : start < 2 ^ 32) (k : ℕ) (h : k < frameLimit) where
+    in-turn : ahead (frameNumber start k) start ≡ k
+    in-turn = turn-is start k hs (omega arith)
+
+    entered-next : record { refusal = 0; account = allAccepted (suc k) } ≡ frameEntered (allAccepted k) (frameNumber start k) (frameTallies k (frames k))
+    unfolding wordsIn
+    entered-next =
+        ap (λ (a : Account). record { refusal = 0; account = a }) (next-account k)
+        ∙ frame-done (allAccepted k) (frameNumber start k) (frameTallies k (frames k)) 0 (not-ahead k) refl limits
+        (words-due (allAccepted k) (frameNumber start k) k in-turn (frames k))
+      where
+        limits : over (grown (allAccepted k) (frameNumber start k) 1 0 (frameTallies k (frames k))) ≡ false
+        limits =
+            let w = all-words frames (suc k) h in
+            within (grown (allAccepted k) (frameNumber start k) 1 0 (frameTallies k (frames k))) (omega arith) (omega arith) (omega arith) (omega arith)
+            (omega arith) (omega arith)
 
 module _ (start asked allowed : ℕ) (frames : ℕ → List ℕ) where
   -- the run after an order and k frames in their turn
   abbrev pub after : ℕ → Run
   after k = record { phase = Going; asked = asked; allowed = allowed; account = allAccepted start frames k }
 
-  pub framed-next : (k : ℕ) → k < frameLimit → locks (frames k) 0 ≡ true → framed (after k) (frameNumber start k) (frames k) ≡ after (suc k)
+  pub framed-next : start < 2 ^ 32 → (k : ℕ) → k < frameLimit → locks (frames k) 0 ≡ true → framed (after k) (frameNumber start k) (frames k) ≡ after (suc k)
   unfolding entryOf
-  framed-next k h l = rw (l, tallies-are (allAccepted start frames k) (frameNumber start k) (frames k), sym (entered-next start frames k h)) refl
+  framed-next hs k h l =
+      rw (
+        l,
+        tallies-are (allAccepted start frames k) (frameNumber start k) k (in-turn start frames hs k h) (frames k),
+        sym (entered-next start frames hs k h),
+      )
+      refl
 
 -- ---- a run that loses its turn once
 
@@ -203,13 +237,12 @@ module _ (start asked allowed : ℕ) (frames : ℕ → List ℕ) where
       go true l (yes n) (yes z) = inr (n, l, (let u = under _ (frame-taken a number (talliesOf a number (receivedFlags f)) z .within) .0 in omega arith))
       go true l (yes n) (no z) = inl (refused-lost (after start asked allowed frames k) number f l z)
 
--- ---- 384 words for each frame accepted, in every run
+-- ---- what the tallies total, in every run
 
 abbrev Counted : Run → Type 0
-Counted run = total (run .account .words) ≡ 384 * run .account .accepted
+Counted run = InTurn (run .account)
 
-entry-counted : (run : Run) (e : Entry) → Counted run → (e .refusal ≡ 0 → total (e .account .words) ≡ 384 * e .account .accepted)
-    → Counted (afterEntry run e)
+entry-counted : (run : Run) (e : Entry) → Counted run → (e .refusal ≡ 0 → InTurn (e .account)) → Counted (afterEntry run e)
 entry-counted run e C h = go (ℕ-discrete (e .refusal) 0)
   where
     go : Dec (e .refusal ≡ 0) → Counted (afterEntry run e)
@@ -227,14 +260,12 @@ framed-counted run got f C = go (locks f 0) refl
     t = talliesOf a got (receivedFlags f)
 
     go : (l : Bool) → locks f 0 ≡ l → Counted (framed run got f)
-    go true e =
-        rw e (entry-counted run (frameEntered a got t) C
-        (λ z. let T = frame-taken a got t z in rw (T .taken) (let d = T .all-due in omega arith)))
-    go false e = rw e (entry-counted run (lossEntered a got) C (λ z. rw (loss-taken a got z .taken) (omega arith)))
+    go true e = rw e (entry-counted run (frameEntered a got t) C (frame-in-turn a got C t))
+    go false e = rw e (entry-counted run (lossEntered a got) C (loss-in-turn a got C))
 
 order-counted : (p : Phase) (run : Run) (start asked allowed : ℕ) → Counted run → Counted (orderCame p run start asked allowed)
 unfolding orderCame
-order-counted Unordered run start asked allowed C = refl
+order-counted Unordered run start asked allowed C = opened-in-turn start
 order-counted Going run start asked allowed C = C
 order-counted Stopped run start asked allowed C = C
 
@@ -244,7 +275,7 @@ frame-counted Unordered run got f C = C
 frame-counted Going run got f C = framed-counted run got f C
 frame-counted Stopped run got f C = C
 
-halted-counted : (p : Phase) (run : Run) → Counted run → total (halted p run .account .words) ≡ 384 * halted p run .account .accepted
+halted-counted : (p : Phase) (run : Run) → Counted run → Counted (halted p run)
 unfolding halted
 halted-counted Unordered run C = C
 halted-counted Going run C = C
@@ -261,3 +292,53 @@ pub walked-counted : (n : ℕ) (s : List ℕ) (i : ℕ) (run : Run) → Counted 
 unfolding walked
 walked-counted zero s i run C = C
 walked-counted (suc n) s i run C = walked-counted n s (nextOf (readAt s i) i) (cameAs (readAt s i) run s) (came-counted (readAt s i) run s C)
+
+-- ---- an order for fewer than two frames
+
+-- an order came
+isOrdered : Phase → Bool
+isOrdered Unordered = false
+isOrdered Going = true
+isOrdered Stopped = true
+
+-- and it was for fewer than two: no later one is heeded
+abbrev Few : Run → Type 0
+Few run = (run .asked < 2) × (isOrdered (run .phase) ≡ true)
+
+entry-few : (run : Run) (e : Entry) → run .asked < 2 → Few (afterEntry run e)
+unfolding isOrdered
+entry-few run e h = go (eqb (e .refusal) 0)
+  where
+    go : (b : Bool) → Few (cond b (going run (e .account)) (stopped run))
+    go true = (h, refl)
+    go false = (h, refl)
+
+came-few : (read : Read) (p : Phase) (run : Run) (s : List ℕ) → run .phase ≡ p → Few run → Few (cameAs read run s)
+unfolding cameAs halted orderCame frameCame isOrdered
+came-few End p run s e F = F
+came-few (Refused refusal) Unordered run s e F = rw e (F .0, refl)
+came-few (Order start asked allowed next) Unordered run s e F = absurd (false≢true (ap isOrdered (sym e) ∙ F .1))
+came-few (Frame number from next) Unordered run s e F = rw e (F .0, refl)
+came-few (Refused refusal) Going run s e F = rw e (F .0, refl)
+came-few (Refused refusal) Stopped run s e F = rw e (F .0, refl)
+came-few (Order start asked allowed next) Going run s e F = rw e (F .0, refl)
+came-few (Order start asked allowed next) Stopped run s e F = rw e (F .0, refl)
+came-few (Frame number from next) Going run s e F =
+    subst (λ (p : Phase). Few (frameCame p run number (symbolsAt s from))) (sym e) (entry-few run (entryOf (run .account) number (symbolsAt s from)) (F .0))
+came-few (Frame number from next) Stopped run s e F = rw e (F .0, refl)
+
+walked-few : (n : ℕ) (s : List ℕ) (i : ℕ) (run : Run) → Few run → Few (walked n s i run)
+unfolding walked
+walked-few zero s i run F = F
+walked-few (suc n) s i run F =
+    walked-few n s (nextOf (readAt s i) i) (cameAs (readAt s i) run s) (came-few (readAt s i) (run .phase) run s refl F)
+
+pub ordered-few : (s : List ℕ) (start asked allowed next : ℕ) → readAt s 0 ≡ Order start asked allowed next → asked < 2
+    → (n : ℕ) → verdictOf (walked n s 0 begun) ≡ NotMeasured
+unfolding verdictOf goesOn verdict walked cameAs orderCame isOrdered
+ordered-few s start asked allowed next e h zero = refl
+ordered-few s start asked allowed next e h (suc n) =
+    ap verdictOf (walked-one n s 0 begun (Order start asked allowed next) e)
+    ∙ (let run = walked n s next (cameAs (Order start asked allowed next) begun s) in
+    fewer-than-two (run .asked) (run .allowed) (run .account) (not (goesOn (run .phase)))
+    (walked-few n s next (cameAs (Order start asked allowed next) begun s) (h, refl) .0))

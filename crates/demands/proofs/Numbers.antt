@@ -11,7 +11,7 @@ use borrow.Author.Tests.{eq-eqb}
 use Rattle.pilots.specs.definitions.Pilots.{locks}
 use Rattle.framing.specs.definitions.Receive.{receivedFlags}
 use Rattle.account.specs.declared.Account.{Account}
-use Rattle.account.specs.definitions.Account.{talliesOf, total, ahead, late, over, withFrame, withLoss, frameEntered, lossEntered}
+use Rattle.account.specs.definitions.Account.{due, talliesOf, total, ahead, late, over, withFrame, withLoss, frameEntered, lossEntered}
 use Rattle.capture.specs.declared.Read.{Read}
 use Rattle.capture.specs.declared.Read.the-variants.{End, Refused, Order, Frame}
 use Rattle.capture.specs.definitions.Capture.{moreThanOne, more, readAt, readOne, symbolsAt}
@@ -21,7 +21,7 @@ use Rattle.bench.specs.declared.Phase.{Phase}
 use Rattle.bench.specs.declared.Phase.the-variants.{Unordered, Going, Stopped}
 use Rattle.bench.specs.definitions.Run.{isStopped, entryOf, frameRefusal, refusalOf, stepRefusal}
 use Rattle.demands.specs.statements.Verdict.{StepNumbers}
-use Rattle.demands.proofs.Measured.{tallies-are, words-due}
+use Rattle.demands.proofs.Measured.{words-brought}
 
 -- none, or 10 or 11
 abbrev OfEntry : ℕ → Type 0
@@ -39,7 +39,7 @@ answers false false = inl refl
 frame-number : (a : Account) (got : ℕ) (f : List ℕ) → OfEntry (frameEntered a got (talliesOf a got (receivedFlags f)) .refusal)
 unfolding frameEntered
 frame-number a got f =
-    rw (eq-eqb (total (talliesOf a got (receivedFlags f))) 384 (ap total (tallies-are a got f) ∙ words-due f))
+    rw (eq-eqb (total (talliesOf a got (receivedFlags f))) (due a got) (words-brought a got f))
     (answers (late (ahead got (a .expected))) (over (withFrame a got (talliesOf a got (receivedFlags f)))))
 
 loss-number : (a : Account) (got : ℕ) → OfEntry (lossEntered a got .refusal)

@@ -1,7 +1,7 @@
 -- A host that calls receiving, the account and the verdict itself is answered the verdict of the capture's run.
 -- Assumes nothing.
 use mathlib.Core.Path.{_≡_, refl, sym, ap, _∙_, subst}
-use mathlib.Core.Bool.{cond, not}
+use mathlib.Core.Bool.{not}
 use mathlib.Core.Logic.{_≢_, _⊎_, inl, inr, _↔_}
 use mathlib.Core.List.{List, [], _∷_, append-assoc}
 use Prim.Native.Nat.{ℕ, zero, suc, _-_, _<_, _≤_}
@@ -14,7 +14,6 @@ use Rattle.bits.specs.definitions.Call.{after}
 use Rattle.framing.specs.definitions.Places.{base}
 use Rattle.framing.specs.definitions.Receive.{receivedStore, receivedLanes, receivedFlags, receiveNumber, Receives}
 use Rattle.account.specs.declared.Account.{Account}
-use Rattle.account.specs.declared.Entry.{Entry}
 use Rattle.account.specs.definitions.Account.{opened, lossEntered, measured, verdict, verdictNumber}
 use Rattle.capture.specs.declared.Read.{Read}
 use Rattle.capture.specs.declared.Read.the-variants.{End, Refused, Order, Frame}
@@ -102,7 +101,7 @@ empty r = refl
 
 -- the verdict on a run's numbers does not ask which number is expected
 told-going : (asked allowed n : ℕ) (a : Account) → n ≡ 0
-    → verdictNumber (verdict asked allowed (record { expected = 0; accepted = a .accepted; missing = a .missing; words = a .words }) (not (eqb n 0)))
+    → verdictNumber (verdict asked allowed (record { expected = 0; start = 0; accepted = a .accepted; missing = a .missing; words = a .words }) (not (eqb n 0)))
     ≡ verdictNumber (verdictOf (record { phase = Going; asked = asked; allowed = allowed; account = a }))
 unfolding verdict measured verdictOf goesOn
 told-going asked allowed n a z = rw z refl
@@ -155,7 +154,7 @@ module _ (s : List ℕ) (a : Arrived s) (answer : ℕ) (O : OwnAccount a answer)
     where
       account : Account
       account =
-          let last = O .accounts (O .calls) in record { expected = 0; accepted = last .accepted; missing = last .missing; words = last .words }
+          let last = O .accounts (O .calls) in record { expected = 0; start = 0; accepted = last .accepted; missing = last .missing; words = last .words }
 
       said : ℕ
       said = verdictNumber (verdict (a .asked) (a .allowed) account (not (eqb (O .stopped) 0)))

@@ -20,7 +20,7 @@ use Rattle.framing.proofs.Sending
 use Rattle.framing.proofs.Receiving
 use Rattle.account.specs.declared.Account.{Account}
 use Rattle.account.specs.declared.Entry.{Entry}
-use Rattle.account.specs.definitions.Account.{total, late, over, withFrame, withLoss, frameEntered, lossEntered}
+use Rattle.account.specs.definitions.Account.{due, total, late, over, withFrame, withLoss, frameEntered, lossEntered}
 use Rattle.account.proofs.Kept.{refused-keeps}
 use Rattle.capture.specs.declared.Read.{Read}
 use Rattle.capture.specs.declared.Read.the-variants.{End, Refused, Order, Frame}
@@ -189,8 +189,8 @@ record Test (b : Bool) (P N : Type 0) : Type 0 where
 late-test : (d : ℕ) → Test (late d) (2 ^ 31 ≤ d) (d < 2 ^ 31)
 late-test d = record { passes = leb-true (2 ^ 31) d; fails = leb-false (2 ^ 31) d; passed = le-leb (2 ^ 31) d; failed = lt-leb (2 ^ 31) d }
 
-due-test : (w : ℕ) → Test (eqb w 384) (w ≡ 384) (w ≢ 384)
-due-test w = record { passes = eqb-true w 384; fails = eqb-false w 384; passed = eq-eqb w 384; failed = ne-eqb w 384 }
+due-test : (w n : ℕ) → Test (eqb w n) (w ≡ n) (w ≢ n)
+due-test w n = record { passes = eqb-true w n; fails = eqb-false w n; passed = eq-eqb w n; failed = ne-eqb w n }
 
 above : (m n : ℕ) → Test (ltb m n) (m < n) (m < n → ⊥)
 above m n =
@@ -263,7 +263,7 @@ pub entry-refusals : EntryRefusals
 unfolding frameEntered lossEntered
 entry-refusals a got d e ahead-is = (
   λ t is. (
-    entry-rows (late-test d) (over-test (withFrame a got t)) (due-test (total t)) (e .refusal) (rw ahead-is (ap refusal is)),
+    entry-rows (late-test d) (over-test (withFrame a got t)) (due-test (total t) (due a got)) (e .refusal) (rw ahead-is (ap refusal is)),
     entry-kept a e (frameEntered a got t) is (refused-keeps a got .0 t),
   ),
   λ is.

@@ -4,6 +4,7 @@ use Rattle.demands.specs.statements.Demands.{Demands}
 use Rattle.demands.specs.statements.Calls.{Calls}
 use Rattle.decoder.proofs.Theorems.{mends-two, flagged-exactly, smallest-distance}
 use Rattle.account.proofs.Kept.{kept-from-order}
+use Rattle.account.proofs.Fill.{due-by-number, adds-due, brings, fewer-than-two}
 use Rattle.traffic.proofs.Signal.{prbs31, direct-state}
 use Rattle.traffic.proofs.Frames.{frame-from, one-after-the-other, one-sequence, traffic-exists, top-bit}
 use Rattle.traffic.proofs.Counts.{what-is-compared, counts-exactly, checks-exist}
@@ -23,7 +24,7 @@ use Rattle.demands.proofs.Tallies.{tallies-alike}
 use Rattle.demands.proofs.Entered.{reported-is-entered}
 use Rattle.demands.proofs.Numbers.{step-numbers}
 use Rattle.demands.proofs.Verdict.{pass-exactly, fail-exactly, not-measured-exactly, program-says, measured-once, examinations-exist, arrived-always}
-use Rattle.demands.proofs.Verdict.{never-pass, all-counted, always-counted}
+use Rattle.demands.proofs.Verdict.{never-pass, one-not-measured, all-counted, always-counted}
 use Rattle.demands.proofs.Reports.{reports-alike}
 use Rattle.demands.proofs.Host.{examined-verdict, examined-report, hosted-run, hosted-verdict, hosted-report, hosted-exists, nothing-dropped}
 use Rattle.demands.proofs.Host.{stopped-verdict}
@@ -32,6 +33,7 @@ use Rattle.demands.proofs.Labels.{spans-label}
 use Rattle.demands.proofs.ReedSolomon.{carries-exactly, reed-solomon-bound, four-pairs}
 use Rattle.demands.proofs.Exceeded.{spans-exist, other-places, other-pairs}
 use Rattle.demands.proofs.Traffic.{traffic-returns, traffic-hit, wrong-test, traffic-speaks}
+use Rattle.demands.proofs.Fill.{fill-bits, fill-words, tallied-exactly}
 
 pub demands : Demands
 demands =
@@ -95,6 +97,14 @@ demands =
       frameRefusals = frame-refusals;
       nextRefusals = next-refusals;
       checkRefusals = check-refusals;
+      fillBits = fill-bits;
+      fillWords = fill-words;
+      talliedExactly = tallied-exactly;
+      dueByNumber = due-by-number;
+      brings = brings;
+      addsDue = adds-due;
+      fewerThanTwo = fewer-than-two;
+      oneNotMeasured = one-not-measured;
     }
 
 pub calls : Calls

@@ -16,7 +16,8 @@ use Rattle.bits.specs.definitions.Bits.{tabulate, AllBytes}
 use Rattle.pilots.specs.definitions.Pilots.{locks}
 use Rattle.account.specs.declared.Verdict.{Verdict}
 use Rattle.account.specs.declared.Verdict.the-variants.{NotMeasured, Pass, Fail}
-use Rattle.account.specs.definitions.Account.{frameLimit, verdict, verdictNumber}
+use Rattle.account.specs.definitions.Account.{total, frameLimit, verdict, verdictNumber}
+use Rattle.account.proofs.Totals.{opened-in-turn}
 use Rattle.account.proofs.VerdictMeaning.{MeasuredNumbers, measured-by, judged, passed, failed}
 use Rattle.capture.specs.declared.Read.{Read}
 use Rattle.capture.specs.declared.Read.the-variants.{End, Refused, Order, Frame}
@@ -32,8 +33,8 @@ use Rattle.report.specs.definitions.Report.{ascii, verdictName, text, writtenBy
 use Rattle.bench.proofs.Walk.{pieces-alike, none-left}
 use Rattle.demands.specs.definitions.Verdict.{Measured, measuredRun, flaggedWords, Stepwise, Examination, Line, Arrived}
 use Rattle.demands.specs.statements.Verdict.{PassExactly, FailExactly, NotMeasuredExactly, ProgramSays, MeasuredOnce, ExaminationsExist, ArrivedAlways}
-use Rattle.demands.specs.statements.Verdict.{NeverPass, AllCounted, AlwaysCounted}
-use Rattle.demands.proofs.Measured.{all-words, walked-counted}
+use Rattle.demands.specs.statements.Verdict.{NeverPass, OneNotMeasured, AllCounted, AlwaysCounted}
+use Rattle.demands.proofs.Measured.{all-words, walked-counted, ordered-few}
 use Rattle.demands.proofs.Walked.{framePlace, framesIn, found, whole-symbols, ends-inside, record-there, up-to, measured-run, measured-back}
 use Rattle.demands.proofs.Lines.{text-lines, verdict-said}
 
@@ -54,8 +55,11 @@ module _ (s : List ℕ) (B : AllBytes s) where
 
 -- and a measured capture is given one
 module _ (s : List ℕ) (m : Measured s) where
+  all-but-fill : total (measuredRun m .account .words) + 448 ≡ 384 * m .asked
+  all-but-fill = let w = all-words (m .frames) (m .asked) (m .within) in let l = m .atLeastTwo in omega arith
+
   numbers : MeasuredNumbers (m .asked) (measuredRun m .account)
-  numbers = record { some = m .some; all = refl; none-missing = refl; right = all-words (m .frames) (m .asked) }
+  numbers = record { at-least-two = m .atLeastTwo; all = refl; none-missing = refl; right = all-but-fill }
 
   given : verdictOf (examined s) ≡ cond (leb (flaggedWords m) (m .allowed)) Pass Fail
   unfolding verdictOf verdict goesOn
@@ -180,6 +184,11 @@ pub not-measured-exactly : NotMeasuredExactly
 unfolding verdictName tabulate
 not-measured-exactly s report B R = carried s report R "verdict NOT MEASURED" NotMeasured refl (unmeasured s B)
 
+pub one-not-measured : OneNotMeasured
+unfolding verdictName tabulate examined
+one-not-measured s report start asked allowed next E e h =
+    stands s report E "verdict NOT MEASURED" NotMeasured refl (ordered-few s start asked allowed next e h (length s))
+
 -- a run that was stopped
 pub stopped-unmeasured : (r : Run) → r .phase ≡ Stopped → verdictOf r ≡ NotMeasured
 unfolding verdictOf goesOn verdict
@@ -221,7 +230,7 @@ pub all-counted : AllCounted
 all-counted s report B E L =
     let P = pass-exactly s report B E .0 L in
     let e = measured-run s (P .0) in
-    (P .0, e, report-is s report E ∙ ap text e, all-words (P .0 .frames) (P .0 .asked))
+    (P .0, e, report-is s report E ∙ ap text e, all-but-fill s (P .0))
 
 -- ---- a capture as it may come
 
@@ -388,6 +397,7 @@ never-pass =
       outOfOrder = λ s report B E a k h n L. n (number-due s report B E a L k h);
       cut = λ s report B E a n L. n (nothing-more s report B E a L);
       unlocked = λ s report B E a k h n L. false≢true (sym n ∙ each-locks s report B E a L k h);
+      one = λ s report B E a e L. let l = pass-exactly s report B E .0 L .0 .atLeastTwo in let f = asked-is s report B E a L in omega arith;
     }
 
 -- ---- every capture that begins with an order
@@ -457,4 +467,4 @@ arrived-always s start asked allowed next B e =
 
 pub always-counted : AlwaysCounted
 unfolding examined
-always-counted s = walked-counted (length s) s 0 begun refl
+always-counted s = walked-counted (length s) s 0 begun (opened-in-turn 0) .totals

@@ -38,7 +38,12 @@ module _ (start asked allowed : ℕ) (frames : ℕ → List ℕ) (h : start < 2 
   unfolding wordsIn
   ordered =
       let e : start ≡ frameNumber start 0 = omega arith in
-      λ i. record { phase = Going; asked = asked; allowed = allowed; account = record { expected = e i; accepted = 0; missing = 0; words = noWords } }
+      λ i. record {
+        phase = Going;
+        asked = asked;
+        allowed = allowed;
+        account = record { expected = e i; start = start; accepted = 0; missing = 0; words = noWords };
+      }
 
   ordered-first : (s : List ℕ) (next : ℕ) → cameAs (Order start asked allowed next) begun s ≡ after start asked allowed frames 0
   unfolding cameAs orderCame
@@ -51,7 +56,7 @@ module _ (start asked allowed : ℕ) (frames : ℕ → List ℕ) (h : start < 2 
   in-turn zero l locked = ordered
   in-turn (suc k) l locked =
       ap (λ (r : Run). frameCame (r .phase) r (frameNumber start k) (frames k)) (in-turn k (omega arith) (λ j m. locked j (omega arith)))
-      ∙ framed-next start asked allowed frames k (omega arith) (locked k (omega arith))
+      ∙ framed-next start asked allowed frames h k (omega arith) (locked k (omega arith))
 
 -- any capture that was measured
 pub measured-run : (s : List ℕ) (m : Measured s) → examined s ≡ measuredRun m
@@ -135,7 +140,7 @@ module _ (s : List ℕ) (B : AllBytes s) (start asked allowed : ℕ) (hs : start
         allowed = allowed;
         frames = framesIn s;
         numbers = (hs, ha, hw);
-        some = M .some;
+        atLeastTwo = M .at-least-two;
         within = subst (λ (n : ℕ). n ≤ frameLimit) all (F .within);
         whole = subst (λ (n : ℕ). (j : ℕ) → j < n → length (framesIn s j) ≡ layout .symbols) all (F .whole);
         locked = subst (λ (n : ℕ). (j : ℕ) → j < n → locks (framesIn s j) 0 ≡ true) all (F .locked);
@@ -193,7 +198,7 @@ module _ (s : List ℕ) (B : AllBytes s) (start asked allowed : ℕ) (hs : start
           subst (Comes s)
           (sym (λ i. walked n s (moves s B k number from next q i)
           ((ap (framed run number) (symbols-here s (framePlace k) from ∙ symbols s B k number from next q) ∙ ap (λ (x : ℕ). framed run x (framesIn s k)) t
-          ∙ framed-next start asked allowed (framesIn s) k h l) i)))
+          ∙ framed-next start asked allowed (framesIn s) hs k h l) i)))
           (IH (one-more k number from next F q t l h))
 
       go : (r : Read) → readAt (drop (framePlace k) s) 0 ≡ r

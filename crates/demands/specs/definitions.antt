@@ -6,5 +6,6 @@ pub mod Trial
 pub mod Tallies
 pub mod ReedSolomon
 pub mod Traffic
+pub mod Fill
 pub mod Verdict
 pub mod Host

@@ -8,6 +8,7 @@ pub mod OneForAll
 pub mod Tallies
 pub mod ReedSolomon
 pub mod Traffic
+pub mod Fill
 pub mod Verdict
 pub mod Host
 pub mod Demands

@@ -1,4 +1,4 @@
-// The account at its limits: what each entry is answered, a line each. The file stdout has what must come.
+// The account at its limits, and what is due to a frame by its number: what each entry is answered, a line each. The file stdout has what must come.
 
 // The largest number that a field holds.
 const LARGEST: u64 = 18446744073709551615;
@@ -8,6 +8,9 @@ const LAST: u32 = 4294967295;
 
 // Half the way round.
 const HALF: u32 = 1 << 31;
+
+// The start number of the accounts at their limits: neither it nor the next number is entered there, so each frame is to bring 384 words.
+const START: u32 = 2;
 
 fn tallies(clean: u64, one: u64, two: u64, flagged: u64) -> account::Tallies {
     account::Tallies {
@@ -30,6 +33,7 @@ fn show(e: account::Entry) {
     let w = a.words;
     put(bits::wide32(e.refusal), b" | ");
     put(bits::wide32(a.expected), b" ");
+    put(bits::wide32(a.start), b" ");
     put(a.accepted, b" ");
     put(a.missing, b" | ");
     put(w.clean, b" ");
@@ -42,6 +46,7 @@ fn show(e: account::Entry) {
 fn frame(accepted: u64, missing: u64, w: account::Tallies, got: u32, t: account::Tallies) {
     let a = account::Account {
         expected: 0,
+        start: START,
         accepted,
         missing,
         words: w,
@@ -53,6 +58,7 @@ fn frame(accepted: u64, missing: u64, w: account::Tallies, got: u32, t: account:
 fn loss(accepted: u64, missing: u64, w: account::Tallies, got: u32) {
     let a = account::Account {
         expected: 0,
+        start: START,
         accepted,
         missing,
         words: w,
@@ -112,8 +118,36 @@ fn order() {
     loss(1000001, 0, none, LAST);
 }
 
+// A frame numbered got, all its words clean, entered in the account of a new order for frames from the last number on.
+fn first(got: u32, clean: u64) {
+    show(account::enter(account::opened(LAST), got, tallies(clean, 0, 0, 0)));
+}
+
+fn due() {
+    title(b"no words at the start number, 320 at the next one, 384 at all others\n");
+    first(LAST, 0);
+    first(LAST, 1);
+    first(LAST, 384);
+    first(0, 320);
+    first(0, 319);
+    first(0, 321);
+    first(0, 384);
+    first(1, 384);
+    first(1, 320);
+    first(1, 0);
+    title(b"by number, where the start frame was lost, and where the numbers come round\n");
+    let lost = account::lose(account::opened(LAST), LAST);
+    let a = lost.account;
+    show(account::enter(a, 0, tallies(0, 320, 0, 0)));
+    show(account::enter(a, 1, tallies(0, 0, 384, 0)));
+    frame(0, 0, tallies(0, 0, 0, 0), START, tallies(0, 0, 0, 0));
+    frame(0, 0, tallies(0, 0, 0, 0), START + 1, tallies(0, 0, 0, 320));
+    frame(0, 0, tallies(0, 0, 0, 0), START + 2, tallies(0, 0, 0, 384));
+}
+
 fn main() {
     frames();
     words();
     order();
+    due();
 }

@@ -1,14 +1,15 @@
 //! Compares the reports of a program, byte for byte, with those of the run over many seeded
 //! captures, each given to the program on its standard input.
 //!
-//! About half of the captures are undisturbed, with an allowance near the flagged words that come.
+//! About half of the captures are undisturbed, with an allowance near the flagged words that are
+//! tallied; fill is often flagged too. Some orders are for one frame, which is never measured.
 //! The others have one or two disturbances: in the numbers, the frames, the records or the end. Now
 //! and then one is of random bytes.
 
-use second::account::{count_flags, FAIL, NOT_MEASURED, PASS};
+use second::account::{fill_words, FAIL, NOT_MEASURED, PASS};
 use second::capture::{
-    frame_record, order_record, Order, FRAME_RECORD, KIND_PLACE, LENGTH_BYTES, ORDER_RECORD,
-    VERSION_PLACE,
+    frame_record, order_record, Answer, Order, Reader, FRAME_RECORD, KIND_PLACE, LENGTH_BYTES,
+    ORDER_RECORD, VERSION_PLACE,
 };
 use second::lanes::{LANES_BYTES, STORE_BYTES};
 use second::receive::receive;
@@ -46,7 +47,12 @@ fn below(random: &mut Xorshift, limit: usize) -> usize {
 
 struct Frame {
     symbols: [u8; FRAME_SYMBOLS],
-    flagged: u32,
+    flags: [u8; FRAME_WORDS],
+}
+
+/// How many of these words are flagged.
+fn flagged(flags: &[u8]) -> u32 {
+    flags.iter().filter(|&&flag| flag == 3).count() as u32
 }
 
 /// Frames made once: sending one for each place of each capture would take most of the time.
@@ -62,26 +68,34 @@ impl Pool {
         let mut frames = |count: usize, wrong_pilots: &[usize]| {
             (0..count)
                 .map(|n| {
-                    let pilots = wrong_pilots[n / 4 % wrong_pilots.len()];
-                    frame(&mut random, &mut store, n % 4, pilots)
+                    let pilots = wrong_pilots[n / 5 % wrong_pilots.len()];
+                    frame(&mut random, &mut store, n % 5, pilots)
                 })
                 .collect()
         };
         Pool {
-            locked: frames(32, &[0, NO_LOCK - 1, 0, 1]),
-            lost: frames(12, &[NO_LOCK, NO_LOCK + 1, PILOT_COUNT]),
+            locked: frames(40, &[0, NO_LOCK - 1, 0, 1]),
+            lost: frames(15, &[NO_LOCK, NO_LOCK + 1, PILOT_COUNT]),
         }
     }
 }
 
 /// The next frame of a sender's run: clean, or up to two flips in some words, or up to six in a few
-/// words, or up to six in every word.
+/// words, or up to six in every word, or in those about the first that a run's second frame tallies.
 fn frame(random: &mut Xorshift, store: &mut [u8], damage: usize, wrong_pilots: usize) -> Frame {
     let lanes = random.bytes(LANES_BYTES);
     let mut symbols = [0; FRAME_SYMBOLS];
     assert_eq!(send(&lanes, store, &mut symbols), 0);
-    let (words, most) = [(0, 0), (50, 2), (5, 6), (FRAME_WORDS, 6)][damage];
-    for word in random.choose(FRAME_WORDS, words) {
+    let (within, words, most) = [
+        (0..FRAME_WORDS, 0, 0),
+        (0..FRAME_WORDS, 50, 2),
+        (0..FRAME_WORDS, 5, 6),
+        (0..FRAME_WORDS, FRAME_WORDS, 6),
+        (56..72, 16, 6),
+    ][damage]
+        .clone();
+    for word in random.choose(within.len(), words) {
+        let word = within.start + word;
         let flips = below(random, most + 1);
         for number in random.choose(usize::from(WORD_BITS), flips) {
             let (symbol, bit) = bit_place(word / 32, word % 32, number);
@@ -95,10 +109,7 @@ fn frame(random: &mut Xorshift, store: &mut [u8], damage: usize, wrong_pilots: u
     let mut lanes = [0; LANES_BYTES];
     let refusal = receive(&symbols, &mut [0; STORE_BYTES], &mut lanes, &mut flags);
     assert_eq!(refusal, if wrong_pilots < NO_LOCK { 0 } else { 5 });
-    Frame {
-        symbols,
-        flagged: count_flags(&flags)[3] as u32,
-    }
+    Frame { symbols, flags }
 }
 
 fn seed(number: u64) -> u64 {
@@ -112,11 +123,7 @@ fn capture(number: u64, pool: &Pool) -> Vec<u8> {
         return noise(random);
     }
     let start = random_start(random);
-    let count = if random.below(16) == 0 {
-        0
-    } else {
-        1 + random.below(4) as u32
-    };
+    let count = random.pick(&[0, 1, 1, 2, 2, 2, 2, 2, 3, 3, 3, 3, 4, 4, 4, 4]);
     let asked = if random.below(16) == 0 {
         let any = random.next_u64() as u32 | 1 << 20;
         random.pick(&[1_000_001, 1 << 31, u32::MAX, any])
@@ -124,15 +131,15 @@ fn capture(number: u64, pool: &Pool) -> Vec<u8> {
         count
     };
     let mut records = vec![vec![]];
-    let mut flagged = 0;
+    let mut tallied = 0;
     for n in 0..count {
         let frame = &pool.locked[below(random, pool.locked.len())];
-        flagged += frame.flagged;
+        tallied += flagged(&frame.flags[fill_words(0, n)..]);
         records.push(frame_record(start.wrapping_add(n), &frame.symbols));
     }
-    // Near the flagged words, since there the verdict turns.
+    // Near the flagged words that are tallied, since there the verdict turns.
     let small = random.below(4) as u32;
-    let near = [flagged.saturating_sub(1), flagged, flagged + 1];
+    let near = [tallied.saturating_sub(1), tallied, tallied + 1];
     let allowed = match random.below(16) {
         0 => u32::MAX,
         1..=5 => small,
@@ -357,22 +364,53 @@ fn print_report(whose: &str, report: &[u8]) {
     }
 }
 
+/// Of a capture's frames with lock, fill and all.
+fn all_flagged(capture: &[u8]) -> u64 {
+    let mut count = 0;
+    let mut reader = Reader::new(capture);
+    loop {
+        match reader.next_record() {
+            Answer::Frame { symbols, .. } => {
+                // Without lock the flags stay as they are, and none is flagged.
+                let mut flags = [0; FRAME_WORDS];
+                let mut lanes = [0; LANES_BYTES];
+                receive(symbols, &mut [0; STORE_BYTES], &mut lanes, &mut flags);
+                count += u64::from(flagged(&flags));
+            }
+            Answer::Order(_) => (),
+            Answer::Refused(_) | Answer::End => return count,
+        }
+    }
+}
+
 /// How the captures ended.
 #[derive(Default)]
 struct Seen {
     captures: u64,
     accepted: u64,
     verdicts: [u64; 3],
+    /// With all frames of an order for one, two or more and nothing else.
+    whole: [u64; 3],
+    passed_for_fill: u64,
     refusals: [u64; 6],
     second_order: u64,
     no_order: u64,
 }
 
 impl Seen {
-    fn add(&mut self, run: &Run) {
+    fn add(&mut self, run: &Run, capture: &[u8]) {
         self.captures += 1;
         self.accepted += run.account.accepted;
         self.verdicts[run.verdict() as usize] += 1;
+        if let (Some(order), None, 0) = (run.order, run.stop, run.account.missing) {
+            let asked = u64::from(order.asked);
+            if asked > 0 && asked == run.account.accepted {
+                self.whole[asked.min(3) as usize - 1] += 1;
+            }
+            if run.verdict() == PASS && all_flagged(capture) > order.allowed.into() {
+                self.passed_for_fill += 1;
+            }
+        }
         match run.stop {
             None => (),
             Some(Stop::Refused(number @ 6..=11)) => self.refusals[number as usize - 6] += 1,
@@ -391,6 +429,18 @@ impl Seen {
             ("NOT MEASURED", NOT_MEASURED),
         ]
         .map(|(name, verdict)| (name.to_string(), self.verdicts[verdict as usize]))
+    }
+
+    fn orders(&self) -> Vec<(String, u64)> {
+        let of = ["an order of 1", "an order of 2", "an order of more"];
+        let mut orders: Vec<_> = of
+            .into_iter()
+            .zip(self.whole)
+            .map(|(name, count)| (name.to_string(), count))
+            .collect();
+        let fill = "a PASS with more flagged than allowed, but in fill";
+        orders.push((fill.to_string(), self.passed_for_fill));
+        orders
     }
 
     fn stops(&self) -> Vec<(String, u64)> {
@@ -412,10 +462,11 @@ impl Seen {
             texts.join(", ")
         };
         format!(
-            "{} captures, {} frames accepted; {}; stopped by {}",
+            "{} captures, {} frames accepted; {}; whole: {}; stopped by {}",
             self.captures,
             self.accepted,
             list(&self.verdicts()),
+            list(&self.orders()),
             list(&self.stops())
         )
     }
@@ -423,6 +474,7 @@ impl Seen {
     fn never(&self) -> Vec<String> {
         self.verdicts()
             .into_iter()
+            .chain(self.orders())
             .chain(self.stops())
             .filter(|&(_, count)| count == 0)
             .map(|(name, _)| name)
@@ -451,7 +503,7 @@ fn compare(count: u64, program: &OsString, arguments: &[OsString]) -> io::Result
             eprintln!("captures: the capture is in {}", file.display());
             return Ok(false);
         }
-        seen.add(&run);
+        seen.add(&run, &capture);
         if number % 500 == 0 {
             eprintln!("captures: {number} of {count}");
         }
@@ -494,16 +546,19 @@ mod tests {
     fn enough_captures_leave_nothing_out() {
         let pool = Pool::new();
         let mut seen = Seen::default();
-        assert_eq!(seen.never().len(), 11);
+        assert_eq!(seen.never().len(), 15);
         for number in 1..=ENOUGH {
             let capture = capture(number, &pool);
             assert!(capture.len() <= MOST_FRAMES * FRAME_RECORD + 3 * ORDER_RECORD + 10);
-            seen.add(&Run::of(&capture));
+            seen.add(&Run::of(&capture), &capture);
         }
         println!("{}", seen.line());
         assert!(seen.never().is_empty(), "{}", seen.line());
         let [(_, pass), (_, fail), _] = seen.verdicts();
         assert!(pass.min(fail) * 10 >= ENOUGH, "{}", seen.line());
+        for (name, count) in seen.orders() {
+            assert!(count * 40 >= ENOUGH, "{name}: {}", seen.line());
+        }
     }
 
     #[test]

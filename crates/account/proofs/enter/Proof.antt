@@ -8,7 +8,7 @@ use Rattle.account.proofs.enter.Tie as tie
 
 entered-requires : tie.Need-entered-requires
 entered-requires c κs z =
-    sym (c .before .before .over .ensures) ∙ none-refuses (late (c .before .before .before .before .ahead .result)) (c .before .before .over .result)
+    sym (c .before .before .over .ensures) ∙ none-refuses (late (c .before .before .before .before .before .ahead .result)) (c .before .before .over .result)
     (c .before .adds-up .result) (sym (c .refusal-of .ensures) ∙ z) .1
 
 returns : tie.Need-returns
@@ -19,6 +19,7 @@ pub enter-spec : {M : Type 1} → statement M
 enter-spec =
     tie.close
     (tie.spec
+    (λ c κs. search needs)
     (λ c κs. search needs)
     (λ c κs. search needs)
     (λ c κs. search needs)

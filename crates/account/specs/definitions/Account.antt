@@ -1,6 +1,6 @@
--- The account of a run and its verdict (01, account and verdict; refusals 10, 11, 12).
+-- The account of a run and its verdict (01, account and verdict; refusals 10, 11, 12; 02, request 02: fill is no measurement).
 -- Assumes nothing.
-use mathlib.Core.Bool.{Bool, true, cond, not, _&&_, _||_}
+use mathlib.Core.Bool.{Bool, true, false, cond, not, _&&_, _||_}
 use mathlib.Core.List.{List}
 use Prim.Native.Nat.{ℕ, _+_, _*_, _-_, _%_, _^_}
 use lib.Dec.{eqb, leb, ltb}
@@ -20,13 +20,21 @@ frameLimit = 1000000
 abbrev pub tallyLimit : ℕ
 tallyLimit = 384000000
 
--- how many words a frame with this number must bring to this account: all 384
-abbrev pub due : Account → ℕ → ℕ
-due a got = 384
+-- got less another number, round 2^32: d, where that is the expected one
+unfoldable pub ahead : ℕ → ℕ → ℕ
+ahead got from = (got + (2 ^ 32 - from)) % 2 ^ 32
 
--- which words of that frame are tallied: every one
+-- by a frame's number, round 2^32: the first of three at the account's start number, the second at the next number, the third at every other (02, request 02)
+abbrev pub byNumber : {A : Type 0} → Account → ℕ → A → A → A → A
+byNumber a got first second later = cond (eqb (ahead got (a .start)) 0) first (cond (eqb (ahead got (a .start)) 1) second later)
+
+-- how many words a frame with this number must bring to this account
+abbrev pub due : Account → ℕ → ℕ
+due a got = byNumber a got 0 320 384
+
+-- which words of that frame are tallied, by their flag places: none; all but words 0 and 1 of each lane, places 0 to 63; all
 abbrev pub tallied : Account → ℕ → ℕ → Bool
-tallied a got word = true
+tallied a got place = byNumber a got false (leb 64 place) true
 
 -- how many of a frame's tallied words have the flag v, by its 384 flag bytes
 unfoldable pub counted : Account → ℕ → List ℕ → ℕ → ℕ
@@ -40,9 +48,9 @@ talliesOf a got flags = record { clean = counted a got flags 0; one = counted a 
 abbrev pub total : Tallies → ℕ
 total t = t .clean + t .one + t .two + t .flagged
 
--- the tallies are of the right total: 384 times the accepted frames
+-- the tallies are of the right total, 384 times the accepted frames less 448. As an addition: with a subtraction that stops at 0, one accepted frame would pass
 abbrev pub rightTotal : Account → Bool
-rightTotal a = eqb (total (a .words)) (384 * a .accepted)
+rightTotal a = eqb (total (a .words) + 448) (384 * a .accepted)
 
 -- no words
 abbrev pub noWords : Tallies
@@ -52,13 +60,9 @@ noWords = record { clean = 0; one = 0; two = 0; flagged = 0 }
 abbrev pub added : Tallies → Tallies → Tallies
 added w t = record { clean = w .clean + t .clean; one = w .one + t .one; two = w .two + t .two; flagged = w .flagged + t .flagged }
 
--- the account of a new order
+-- the account of a new order: it keeps the start number
 abbrev pub opened : ℕ → Account
-opened start = record { expected = start; accepted = 0; missing = 0; words = noWords }
-
--- d: got less expected, round 2^32
-unfoldable pub ahead : ℕ → ℕ → ℕ
-ahead got expected = (got + (2 ^ 32 - expected)) % 2 ^ 32
+opened start = record { expected = start; start = start; accepted = 0; missing = 0; words = noWords }
 
 -- half the way round or more is late (refusal 10)
 abbrev pub late : ℕ → Bool
@@ -67,7 +71,13 @@ late d = leb (2 ^ 31) d
 -- the account after the frame numbered got: so many frames more accepted and missing, and their tallies
 abbrev pub grown : Account → ℕ → ℕ → ℕ → Tallies → Account
 grown a got accepted missing t =
-    record { expected = (got + 1) % 2 ^ 32; accepted = a .accepted + accepted; missing = a .missing + missing; words = added (a .words) t }
+    record {
+      expected = (got + 1) % 2 ^ 32;
+      start = a .start;
+      accepted = a .accepted + accepted;
+      missing = a .missing + missing;
+      words = added (a .words) t;
+    }
 
 -- accepted or missing frames stand above their limit
 abbrev pub framesOver : (accepted missing : ℕ) → Bool
@@ -102,9 +112,9 @@ frameEntered a got t =
 unfoldable pub lossEntered : Account → ℕ → Entry
 lossEntered a got = answer (cond (late (ahead got (a .expected))) 10 (cond (over (withLoss a got)) 11 0)) (withLoss a got) a
 
--- at least one frame asked, as many accepted, none missing, and tallies of the right total
+-- at least two frames asked, as many accepted, none missing, and tallies of the right total
 unfoldable pub measured : ℕ → Account → Bool
-measured asked a = ltb 0 asked && (eqb (a .accepted) asked && (eqb (a .missing) 0 && rightTotal a))
+measured asked a = ltb 1 asked && (eqb (a .accepted) asked && (eqb (a .missing) 0 && rightTotal a))
 
 -- PASS if flagged words are at most the allowance, else FAIL; anything else, and a run that was stopped, is not measured. No limit is applied here
 unfoldable pub verdict : ℕ → ℕ → Account → Bool → Verdict

@@ -2,15 +2,24 @@
 -- Assumes nothing.
 use mathlib.Core.Path.{_≡_}
 use mathlib.Core.Bool.{Bool, false, cond}
-use Prim.Native.Nat.{ℕ, zero, suc, _+_, _*_, _%_, _^_}
+use mathlib.Core.Logic.{_⊎_}
+use Prim.Native.Nat.{ℕ, zero, suc, _+_, _*_, _%_, _^_, _≤_}
 use Rattle.account.specs.definitions.Account.{total, opened, over, frameEntered, lossEntered}
 use Rattle.account.specs.declared.Account.{Account}
 use Rattle.account.specs.declared.Tallies.{Tallies}
 
--- the account follows on from the order's start: its tallies total 384 times the accepted frames, the next number is as many after start as frames are
--- accepted or missing, round 2^32, and no limit is passed
+-- what the four tallies total: where none is missing and at least two frames are accepted, 384 times the accepted frames less 448; one alone brings no words;
+-- and whatever is missing, there lack the 384 words of the first number, the 64 of the second, both or neither (02, request 02)
+pub record Totals (a : Account) : Type 0 where
+  pub exactly : a .missing ≡ 0 → 2 ≤ a .accepted → total (a .words) + 448 ≡ 384 * a .accepted
+  pub alone : a .missing ≡ 0 → a .accepted ≤ 1 → total (a .words) ≡ 0
+  pub lacking : (x : ℕ) × (total (a .words) + x ≡ 384 * a .accepted) × ((x ≡ 0) ⊎ (x ≡ 64) ⊎ (x ≡ 384) ⊎ (x ≡ 448))
+
+-- the account follows on from the order's start: it keeps that number, its tallies total what `Totals` says, the next number is as many after start as frames
+-- are accepted or missing, round 2^32, and no limit is passed
 pub record Follows (start : ℕ) (a : Account) : Type 0 where
-  pub totals : total (a .words) ≡ 384 * a .accepted
+  pub starts : a .start ≡ start
+  pub totals : Totals a
   pub numbers : a .expected ≡ (start + a .accepted + a .missing) % 2 ^ 32
   pub within : over a ≡ false
 

@@ -3,10 +3,8 @@
 use mathlib.Core.Path.{_≡_}
 use mathlib.Core.Logic.{_≢_}
 use mathlib.Core.Bool.{Bool}
-use mathlib.Core.List.{List}
-use Prim.Native.Nat.{ℕ, _^_, _≤_, _<_}
-use lib.ListN.{getD}
-use Rattle.account.specs.definitions.Account.{total, due, talliesOf, frameEntered, lossEntered}
+use Prim.Native.Nat.{ℕ, _^_, _<_}
+use Rattle.account.specs.definitions.Account.{frameEntered, lossEntered}
 use Rattle.account.specs.declared.Account.{Account}
 use Rattle.account.specs.declared.Tallies.{Tallies}
 use Rattle.account.specs.definitions.Kept.{Follows, accountAfter}
@@ -23,7 +21,3 @@ RefusedKeeps =
     (a : Account) (got : ℕ)
     → ((t : Tallies) → frameEntered a got t .refusal ≢ 0 → frameEntered a got t .account ≡ a)
     × (lossEntered a got .refusal ≢ 0 → lossEntered a got .account ≡ a)
-
--- flag bytes that say 0, 1, 2 or 3 bring the words that are due
-abbrev pub Brings : Type 0
-Brings = (a : Account) (got : ℕ) (flags : List ℕ) → ((word : ℕ) → word < 384 → getD flags word 0 ≤ 3) → total (talliesOf a got flags) ≡ due a got

@@ -78,6 +78,7 @@ pub record OwnAccount {s : List ℕ} (a : Arrived s) (answer : ℕ) : Type 0 whe
       answer
       ≡ verdictNumber (verdict (a .asked) (a .allowed) (record {
         expected = 0;
+        start = 0;
         accepted = accounts calls .accepted;
         missing = accounts calls .missing;
         words = accounts calls .words;

@@ -2,7 +2,7 @@
 -- come.
 -- Assumes nothing.
 use mathlib.Core.Path.{_≡_}
-use mathlib.Core.Bool.{true, cond}
+use mathlib.Core.Bool.{true, cond, _&&_}
 use mathlib.Core.Logic.{_≢_, _⊎_}
 use mathlib.Core.List.{List, [], _∷_, _++_}
 use Prim.Native.Nat.{ℕ, zero, suc, _+_, _^_, _≤_, _<_}
@@ -21,18 +21,20 @@ use Rattle.bench.specs.declared.Phase.the-variants.{Going}
 use Rattle.bench.specs.definitions.Run.{begun, stepped}
 use Rattle.bench.specs.definitions.Walk.{examined, pieces}
 use Rattle.report.specs.definitions.Report.{ascii, text, writtenBytes, written}
+use Rattle.demands.specs.definitions.Fill.{freeOfFill}
 
--- how many words of a frame have the flag v, by what each decodes to: 0, 1 or 2 bits mended, or 3, no code word lies within two bits
-unfoldable pub wordsWith : ℕ → List ℕ → ℕ
-wordsWith v f = count (λ i. eqb (flagOf (mend (arrived f i))) v) 384
+-- how many words of frame k of a run that are free of fill have the flag v, by what each decodes to: 0, 1 or 2 bits mended, or 3, no code word lies within two
+-- bits
+unfoldable pub wordsWith : ℕ → ℕ → List ℕ → ℕ
+wordsWith v k f = count (λ i. freeOfFill k i && eqb (flagOf (mend (arrived f i))) v) 384
 
 -- and of frames 0, 1, .., n - 1
 unfoldable pub wordsIn : ℕ → (ℕ → List ℕ) → ℕ → ℕ
 wordsIn v frames zero = 0
-wordsIn v frames (suc n) = wordsIn v frames n + wordsWith v (frames n)
+wordsIn v frames (suc n) = wordsIn v frames n + wordsWith v n (frames n)
 
--- what was ordered, all of it and nothing else, was measured: the capture is one order record, then exactly the frame records asked for, numbered from start on
--- round 2^32, then nothing, and every frame locks
+-- at least two frames were ordered (02, request 02), and all of them and nothing else were measured: the capture is one order record, then exactly the frame
+-- records asked for, numbered from start on round 2^32, then nothing, and every frame locks
 pub record Measured (s : List ℕ) : Type 0 where
   pub start : ℕ
   pub asked : ℕ
@@ -40,14 +42,14 @@ pub record Measured (s : List ℕ) : Type 0 where
   -- the symbols of each frame
   pub frames : ℕ → List ℕ
   pub numbers : (start < 2 ^ 32) × (asked < 2 ^ 32) × (allowed < 2 ^ 32)
-  pub some : 1 ≤ asked
+  pub atLeastTwo : 2 ≤ asked
   -- no entry is refused: frames in their turn that bring their words can only pass the limit on accepted ones
   pub within : asked ≤ frameLimit
   pub whole : (k : ℕ) → k < asked → length (frames k) ≡ layout .symbols
   pub locked : (k : ℕ) → k < asked → locks (frames k) 0 ≡ true
   pub capture : s ≡ orderRecord start asked allowed ++ frameRecords (frameNumber start) frames asked
 
--- the run that it comes to: every frame accepted, none missing, and every word of every frame counted
+-- the run that it comes to: every frame accepted, none missing, and every word of every frame counted that is free of fill
 abbrev pub measuredRun : {s : List ℕ} → Measured s → Run
 measuredRun m =
     record {
@@ -57,6 +59,7 @@ measuredRun m =
       account =
           record {
             expected = frameNumber (m .start) (m .asked);
+            start = m .start;
             accepted = m .asked;
             missing = 0;
             words = record {
@@ -68,7 +71,7 @@ measuredRun m =
           };
     }
 
--- the flagged words of all frames
+-- the flagged words of all frames, those that carry fill left out
 abbrev pub flaggedWords : {s : List ℕ} → Measured s → ℕ
 flaggedWords m = wordsIn 3 (m .frames) (m .asked)
 

@@ -3,6 +3,7 @@
 -- Assumes nothing.
 use Rattle.decoder.specs.statements.Word.{MendsTwo, FlaggedExactly, SmallestDistance}
 use Rattle.account.specs.statements.Kept.{KeptFromOrder}
+use Rattle.account.specs.statements.Fill.{DueByNumber, AddsDue, Brings, FewerThanTwo}
 use Rattle.traffic.specs.statements.Register.{Prbs31, DirectState}
 use Rattle.traffic.specs.statements.Traffic.{FrameFrom, OneAfterTheOther, OneSequence, TrafficExists, TopBit}
 use Rattle.traffic.specs.statements.Checker.{Compared, CountsExactly, ChecksExist}
@@ -20,9 +21,10 @@ use Rattle.demands.specs.statements.Trial.{FlipsCounted, RefusedExactly,
 use Rattle.demands.specs.statements.OneForAll.{OneForAll, TwoFlips}
 use Rattle.demands.specs.statements.Tallies.{TalliesAlike, ReportedIsEntered, ReportsAlike}
 use Rattle.demands.specs.statements.Verdict.{PassExactly, FailExactly, NotMeasuredExactly, ProgramSays, MeasuredOnce, ExaminationsExist, ArrivedAlways}
-use Rattle.demands.specs.statements.Verdict.{NeverPass, AllCounted, AlwaysCounted, StepNumbers}
+use Rattle.demands.specs.statements.Verdict.{NeverPass, OneNotMeasured, AllCounted, AlwaysCounted, StepNumbers}
 use Rattle.demands.specs.statements.ReedSolomon.{SpansExist, SpansLabel, CarriesExactly, ReedSolomonBound, FourPairs, OtherPlaces, OtherPairs}
 use Rattle.demands.specs.statements.Traffic.{TrafficReturns, TrafficHit, WrongTest, TrafficSpeaks}
+use Rattle.demands.specs.statements.Fill.{FillBits, FillWords, TalliedExactly}
 
 -- the demands over words, streams and captures, sentence by sentence
 pub record Demands : Type 0 where
@@ -100,3 +102,13 @@ pub record Demands : Type 0 where
   pub frameRefusals : FrameRefusals
   pub nextRefusals : NextRefusals
   pub checkRefusals : CheckRefusals
+  -- 02, request 02: what carries fill, and so what is tallied; what is due to a frame, that it is brought and added; and that an order for one frame is not
+  -- measured, by its numbers and in the report
+  pub fillBits : FillBits
+  pub fillWords : FillWords
+  pub talliedExactly : TalliedExactly
+  pub dueByNumber : DueByNumber
+  pub brings : Brings
+  pub addsDue : AddsDue
+  pub fewerThanTwo : FewerThanTwo
+  pub oneNotMeasured : OneNotMeasured

@@ -1,5 +1,5 @@
 -- Demand 1: each refusal carries the number in the refusal list, is given in exactly its listed case, and changes no output, state or account. Number by
--- number, as 01's list has them; `proofs/Refusals` proves each.
+-- number, as 01's list has them, 12 as 02's request 02 has it; `proofs/Refusals` proves each.
 -- Assumes nothing.
 use mathlib.Core.Path.{_≡_}
 use mathlib.Core.Bool.{not}
@@ -19,7 +19,7 @@ use Rattle.capture.specs.definitions.Capture.{bigEndianAt, readAt, nextOf}
 use Rattle.account.specs.declared.Tallies.{Tallies}
 use Rattle.account.specs.declared.Account.{Account}
 use Rattle.account.specs.declared.Entry.{Entry}
-use Rattle.account.specs.definitions.Account.{total, ahead, withFrame, withLoss, frameEntered, lossEntered}
+use Rattle.account.specs.definitions.Account.{total, due, ahead, withFrame, withLoss, frameEntered, lossEntered}
 use Rattle.demands.specs.definitions.Refusals.{Above}
 
 -- sending, of the lanes a with the store s and the output o: 0 to 3 and no other; and a refused call leaves the store and the output as they were
@@ -64,15 +64,15 @@ RecordRefusals =
     × ((refusal : ℕ) → read ≡ Refused refusal → nextOf read i ≡ i)
 
 -- an entry into the account a, d ahead of the number expected: of a frame with the tallies t 0, 10, 11 and 12 and no other, of a loss 0, 10 and 11 and no
--- other; and a refused entry leaves the account as it was
+-- other; 12 where the tallies are not of the words due, 0, 320 or 384 by the frame's number; and a refused entry leaves the account as it was
 abbrev pub EntryRefusals : Type 0
 EntryRefusals =
     (a : Account) (got d : ℕ) (e : Entry) → d ≡ ahead got (a .expected)
     → ((t : Tallies) → e ≡ frameEntered a got t
-    → (((e .refusal ≡ 0) ↔ ((d < 2 ^ 31) × (Above (withFrame a got t) → ⊥) × (total t ≡ 384)))
+    → (((e .refusal ≡ 0) ↔ ((d < 2 ^ 31) × (Above (withFrame a got t) → ⊥) × (total t ≡ due a got)))
     × ((e .refusal ≡ 10) ↔ (2 ^ 31 ≤ d))
     × ((e .refusal ≡ 11) ↔ ((d < 2 ^ 31) × Above (withFrame a got t)))
-    × ((e .refusal ≡ 12) ↔ ((d < 2 ^ 31) × (Above (withFrame a got t) → ⊥) × (total t ≢ 384)))
+    × ((e .refusal ≡ 12) ↔ ((d < 2 ^ 31) × (Above (withFrame a got t) → ⊥) × (total t ≢ due a got)))
     × (e .refusal ≢ 0 → (10 ≤ e .refusal) × (e .refusal ≤ 12)))
     × (e .refusal ≢ 0 → e .account ≡ a))
     × (e ≡ lossEntered a got

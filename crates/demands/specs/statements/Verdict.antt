@@ -1,16 +1,17 @@
--- Demand 2: PASS is given exactly if the frames ordered, at least one, and no others were measured, no record was refused, no second order came, and
--- flagged words keep within the allowance; and what an examiner may read from a report. Over every byte string; `proofs/Verdict`
+-- Demand 2: PASS is given exactly if the frames ordered, at least two (02, request 02), and no others were measured, no record was refused, no second order
+-- came, and flagged words, of those tallied, keep within the allowance; and what an examiner may read from a report. Over every byte string; `proofs/Verdict`
 -- proves each, `proofs/Numbers` the last.
 -- Assumes nothing.
 use mathlib.Core.Path.{_≡_}
 use mathlib.Core.Bool.{true, false}
 use mathlib.Core.Logic.{_≢_, _⊎_, _↔_}
 use mathlib.Core.List.{List, []}
-use Prim.Native.Nat.{ℕ, _*_, _≤_, _<_}
+use Prim.Native.Nat.{ℕ, _+_, _*_, _≤_, _<_}
 use lib.ListN.{length}
 use Rattle.bits.specs.definitions.Bits.{AllBytes}
 use Rattle.pilots.specs.definitions.Pilots.{locks}
 use Rattle.account.specs.definitions.Account.{total}
+use Rattle.account.specs.definitions.Kept.{Totals}
 use Rattle.capture.specs.declared.Read.the-variants.{Order}
 use Rattle.capture.specs.definitions.Capture.{readAt, more, frameNumber}
 use Rattle.bench.specs.declared.Run.{Run}
@@ -53,7 +54,7 @@ ExaminationsExist =
 abbrev pub ArrivedAlways : Type 0
 ArrivedAlways = (s : List ℕ) (start asked allowed next : ℕ) → AllBytes s → readAt s 0 ≡ Order start asked allowed next → Arrived s
 
--- For the examiner: a capture with a frame missing, doubled, out of order, cut or unlocked is never PASS
+-- For the examiner: a capture with a frame missing, doubled, out of order, cut or unlocked, or with an order for one frame, is never PASS
 pub record NeverPass : Type 0 where
   -- the number of a frame that was ordered is not among those that came
   pub missing : (s report : List ℕ) → AllBytes s → Examination s report → (a : Arrived s)
@@ -69,20 +70,29 @@ pub record NeverPass : Type 0 where
   -- a frame does not lock
   pub unlocked : (s report : List ℕ) → AllBytes s → Examination s report → (a : Arrived s)
       → (k : ℕ) → k < a .n → locks (a .frames k) 0 ≡ false → Line "verdict PASS" report → ⊥
+  -- one frame was ordered
+  pub one : (s report : List ℕ) → AllBytes s → Examination s report → (a : Arrived s) → a .asked ≡ 1 → Line "verdict PASS" report → ⊥
 
--- For the examiner: PASS means that every ordered frame's 384 words were counted. The report is that of as many frames accepted as asked for, none missing, and
--- the words with each flag over all of them
+-- An order for one frame, or for none, is always NOT MEASURED, whatever follows it (02, request 02)
+abbrev pub OneNotMeasured : Type 0
+OneNotMeasured =
+    (s report : List ℕ) (start asked allowed next : ℕ) → Examination s report → readAt s 0 ≡ Order start asked allowed next → asked < 2
+    → Line "verdict NOT MEASURED" report
+
+-- For the examiner: PASS means that every ordered frame's 384 words were counted, but for the run's 448 that carry fill. The report is that of as many frames
+-- accepted as asked for, none missing, and the words with each flag over all of them
 abbrev pub AllCounted : Type 0
 AllCounted =
     (s report : List ℕ) → AllBytes s → Examination s report → Line "verdict PASS" report
-    → (m : Measured s) × (examined s ≡ measuredRun m) × (report ≡ text (measuredRun m)) × (total (measuredRun m .account .words) ≡ 384 * m .asked)
+    → (m : Measured s) × (examined s ≡ measuredRun m) × (report ≡ text (measuredRun m)) × (total (measuredRun m .account .words) + 448 ≡ 384 * m .asked)
 
--- and whatever the verdict, the report shows 384 words for each frame accepted
+-- and whatever the verdict, the four tallies that the report shows and 448 total 384 times the accepted frames where none is missing and at least two are
+-- accepted; one alone shows none; and whatever is missing, there lack the 384 words of the first number, the 64 of the second, both or neither
 abbrev pub AlwaysCounted : Type 0
-AlwaysCounted = (s : List ℕ) → total (examined s .account .words) ≡ 384 * examined s .account .accepted
+AlwaysCounted = (s : List ℕ) → Totals (examined s .account)
 
 -- the numbers by which a record stops a run: 6 to 11, and 22, which is given exactly where a record stands in the bytes and more behind it, before 10 and 11:
--- nothing is entered then. 12 never comes, since a frame that was received brings its 384 words
+-- nothing is entered then. 12 never comes, since a frame that was received brings the words that are due to it
 abbrev pub StepNumbers : Type 0
 StepNumbers =
     (r : Run) (s : List ℕ)

@@ -67,14 +67,18 @@ fn both_ways<W: Write>(
     Ok(verdict)
 }
 
-/// Frames one after the other, of which the second has a flagged word, where there is a second.
+/// Frames one after the other, of which every second has a flagged word beside its fill; fill is
+/// flagged in the first and in the second.
 fn frames(random: &mut Xorshift, count: usize) -> Vec<Symbols> {
     let mut store = [0; STORE_BYTES];
     let mut frames: Vec<_> = (0..count).map(|_| sent(random, &mut store)).collect();
     for (n, frame) in frames.iter_mut().enumerate() {
-        flip_any(random, frame, 5, n % 2 * 3);
+        flip_any(random, frame, 70, n % 2 * 3);
         flip_any(random, frame, 77, 1);
         flip_any(random, frame, 300, 2);
+        if n < 2 {
+            flip_any(random, frame, 63, 3);
+        }
     }
     frames
 }
@@ -97,20 +101,21 @@ fn verdicts<W: Write>(calls: &mut Calls<W>, random: &mut Xorshift) -> io::Result
             for count in 0..4 {
                 let capture = capture(random.pick(&STARTS), asked, allowed, &all[..count]);
                 let right = match asked as usize {
-                    0 => NOT_MEASURED,
+                    0 | 1 => NOT_MEASURED,
                     asked if asked != count => NOT_MEASURED,
-                    asked if allowed == 0 && asked > 1 => FAIL,
+                    _ if allowed == 0 => FAIL,
                     _ => PASS,
                 };
                 assert_eq!(both_ways(calls, random, &capture)?, right);
-                if count == 1 {
+                if count == asked.max(1) as usize {
                     examine(calls, random, &capture, 0..=BEYOND)?;
                 }
             }
         }
     }
-    let whole = sent(random, &mut [0; STORE_BYTES]);
-    let shortest = capture(0, 1, 0, &[whole]);
+    let mut store = [0; STORE_BYTES];
+    let whole = [(); 2].map(|()| sent(random, &mut store));
+    let shortest = capture(0, 2, 0, &whole);
     assert_eq!(examine(calls, random, &shortest, 0..=BEYOND)?, PASS);
     // The longest numbers that so few frames can bring.
     let ahead = [order(0, u32::MAX, 0), frame_record(1_000_000, &all[0])].concat();
@@ -175,17 +180,54 @@ fn disturbed<W: Write>(calls: &mut Calls<W>, random: &mut Xorshift) -> io::Resul
     Ok(())
 }
 
-/// A frame with lock, or without, as far ahead of an order's start as may be, and farther.
+/// A frame with lock, or without, as far ahead of an order's start as may be, and farther, and the next
+/// behind it. Where that is the second of the run it has fewer tallies.
 fn ahead<W: Write>(calls: &mut Calls<W>, random: &mut Xorshift) -> io::Result<()> {
-    let good = frames(random, 1)[0];
+    let all = frames(random, 2);
+    let (good, next) = (all[0], all[1]);
     let mut bad = good;
     damage_pilots(random, &mut bad, NO_LOCK);
     for d in AHEAD {
         for symbols in [&good, &bad] {
             let start = random.pick(&STARTS);
-            let record = frame_record(start.wrapping_add(d), symbols);
-            let verdict = both_ways(calls, random, &[order(start, 1, 384), record].concat())?;
+            let capture = [
+                order(start, 2, 384),
+                frame_record(start.wrapping_add(d), symbols),
+                frame_record(start.wrapping_add(d).wrapping_add(1), &next),
+            ];
+            let verdict = both_ways(calls, random, &capture.concat())?;
             assert_eq!(verdict == PASS, d == 0 && symbols == &good);
+        }
+    }
+    Ok(())
+}
+
+/// Every frame in which only fill is flagged, or one word more, about the first that is tallied; none
+/// is allowed.
+fn flagged_fill<W: Write>(calls: &mut Calls<W>, random: &mut Xorshift) -> io::Result<()> {
+    let mut store = [0; STORE_BYTES];
+    let clean = [(); 3].map(|()| sent(random, &mut store));
+    for (frame, word, right) in [
+        (0, 0, PASS),
+        (0, 63, PASS),
+        (0, 64, PASS),
+        (0, 383, PASS),
+        (1, 0, PASS),
+        (1, 31, PASS),
+        (1, 32, PASS),
+        (1, 63, PASS),
+        (1, 64, FAIL),
+        (1, 383, FAIL),
+        (2, 0, FAIL),
+        (2, 63, FAIL),
+        (2, 64, FAIL),
+    ] {
+        for start in [0, u32::MAX - 1, u32::MAX, random.next_u64() as u32] {
+            let mut frames = clean;
+            flip_any(random, &mut frames[frame], word, 3);
+            let count = random.pick(&[frame + 1, 3]).max(2);
+            let capture = capture(start, count as u32, 0, &frames[..count]);
+            assert_eq!(both_ways(calls, random, &capture)?, right);
         }
     }
     Ok(())
@@ -228,6 +270,7 @@ pub fn write<W: Write>(calls: &mut Calls<W>, random: &mut Xorshift) -> io::Resul
     verdicts(calls, random)?;
     disturbed(calls, random)?;
     ahead(calls, random)?;
+    flagged_fill(calls, random)?;
     long(calls, random)?;
     noise(calls, random)
 }

@@ -92,6 +92,7 @@ impl<W: Write> Calls<W> {
 
     fn account(&mut self, account: &Account) -> io::Result<()> {
         self.u32(account.expected)?;
+        self.u32(account.start)?;
         for number in numbers(*account) {
             self.u64(number)?;
         }

@@ -28,16 +28,17 @@ fn run(phase: u32, asked: u32, account: Account) -> Kept {
 pub fn write<W: Write>(calls: &mut Calls<W>, random: &mut Xorshift) -> io::Result<()> {
     let runs = [
         Kept::new(),
-        run(GOING, u32::MAX, account(u32::MAX, [u64::MAX; 6])),
-        run(2, u32::MAX, account(0, [u64::MAX; 6])),
-        run(GOING, 1, account(8, [1, 0, 384, 0, 0, 0])),
-        run(GOING, 1, account(8, [1, 0, 0, 0, 380, 4])),
-        run(77, 1, account(8, [1, 0, 384, 0, 0, 0])),
-        run(0, 1, account(8, [1, 0, 384, 0, 0, 0])),
+        run(GOING, u32::MAX, account(u32::MAX, 1, [u64::MAX; 6])),
+        run(2, u32::MAX, account(0, u32::MAX, [u64::MAX; 6])),
+        run(GOING, 2, account(8, 6, [2, 0, 320, 0, 0, 0])),
+        run(GOING, 2, account(8, 6, [2, 0, 0, 0, 316, 4])),
+        run(GOING, 1, account(8, 7, [1, 0, 0, 0, 0, 0])),
+        run(77, 2, account(8, 6, [2, 0, 320, 0, 0, 0])),
+        run(0, 2, account(8, 6, [2, 0, 320, 0, 0, 0])),
         run(
             GOING,
             1_000_000,
-            account(8, [1_000_000, 0, 384_000_000, 0, 0, 0]),
+            account(8, 6, [1_000_000, 0, 383_999_552, 0, 0, 0]),
         ),
     ];
     let mut lengths = vec![];
@@ -64,7 +65,7 @@ pub fn write<W: Write>(calls: &mut Calls<W>, random: &mut Xorshift) -> io::Resul
                     6 => asked = number as u32,
                     _ => numbers[which] = number,
                 }
-                let run = run(GOING, asked, account(1, numbers));
+                let run = run(GOING, asked, account(1, any(random) as u32, numbers));
                 calls.run_report(&run, &mut random.bytes(ROOM))?;
             }
         }
@@ -73,7 +74,7 @@ pub fn write<W: Write>(calls: &mut Calls<W>, random: &mut Xorshift) -> io::Resul
         let account = match random.below(3) {
             0 => odd_account(random),
             1 => opened(any(random) as u32),
-            _ => account(1, [0; 6].map(|_| any(random))),
+            _ => account(1, any(random) as u32, [0; 6].map(|_| any(random))),
         };
         let run = run(random.pick(&PHASES), any(random) as u32, account);
         let room = SHORTEST + random.below(150) as usize;

@@ -2,14 +2,14 @@
 //! captures cut anywhere, at every limit, by every refusal, and long runs with their verdict and
 //! report after every step.
 
-use crate::accounts::{edges, odd_account, AHEAD, MOST, STARTS};
+use crate::accounts::{edges, odd_account, start_near, AHEAD, MOST, STARTS};
 use crate::frames::{damage_pilots, damage_words, flip_any, sent, Symbols};
 use crate::out::Calls;
 use crate::records::{order, unlawful};
 use crate::reports::ROOM;
 use crate::verdicts::any;
 use second::account::{
-    account, count_flags, enter_flags, lose, Account, FAIL, LATE, NOT_MEASURED, PASS,
+    account, count_flags, enter_flags, fill_words, lose, Account, FAIL, LATE, NOT_MEASURED, PASS,
 };
 use second::capture::{
     frame_record, read, FRAME, FRAME_RECORD, KIND_PLACE, MORE_THAN_ONE, ORDER_RECORD, VERSION_PLACE,
@@ -162,7 +162,9 @@ fn pieces(random: &mut Xorshift, expected: u32) -> Vec<Vec<u8>> {
 
 /// An account far below its limits.
 fn small(random: &mut Xorshift) -> Account {
-    account(random.pick(&STARTS), [3, 1, 1_000, 100, 50, 2])
+    let expected = random.pick(&STARTS);
+    let start = start_near(random, expected);
+    account(expected, start, [3, 1, 1_000, 100, 50, 2])
 }
 
 fn odd_run(random: &mut Xorshift, phase: u32) -> Kept {
@@ -196,7 +198,7 @@ fn from_every_phase<W: Write>(calls: &mut Calls<W>, random: &mut Xorshift) -> io
 fn with_more_behind<W: Write>(calls: &mut Calls<W>, random: &mut Xorshift) -> io::Result<()> {
     let (good, bad) = (damaged(random), lost(random));
     for phase in [UNORDERED, GOING] {
-        for account in [small(random), account(9, MOST), odd_account(random)] {
+        for account in [small(random), account(9, 9, MOST), odd_account(random)] {
             let before = Kept {
                 account,
                 ..odd_run(random, phase)
@@ -353,12 +355,13 @@ fn by_records<W: Write>(calls: &mut Calls<W>, random: &mut Xorshift) -> io::Resu
     Ok(())
 }
 
-/// What the entry of a frame adds to accepted, missing and the tallies; of any store.
-fn added(symbols: &Symbols, d: u64) -> [u64; 6] {
+/// What the entry of a frame, with so many words of fill, adds to accepted, missing and the tallies;
+/// of any store.
+fn added(symbols: &Symbols, fill: usize, d: u64) -> [u64; 6] {
     let (mut lanes, mut flags) = ([0; LANES_BYTES], [0; FRAME_WORDS]);
     match receive(symbols, &mut [0; STORE_BYTES], &mut lanes, &mut flags) {
         0 => {
-            let [clean, one, two, flagged] = count_flags(&flags);
+            let [clean, one, two, flagged] = count_flags(&flags[fill..]);
             [1, d, clean, one, two, flagged]
         }
         _ => [0, d + 1, 0, 0, 0, 0],
@@ -369,9 +372,13 @@ fn added(symbols: &Symbols, d: u64) -> [u64; 6] {
 /// anything before an order or where the run was stopped.
 fn by_entries<W: Write>(calls: &mut Calls<W>, random: &mut Xorshift) -> io::Result<()> {
     for symbols in [damaged(random), lost(random)] {
-        for d in [0, 1, 2, 999_999, LATE, LATE + 1, u32::MAX] {
+        for (d, from_start) in [0, 1, 2, 999_999, LATE, LATE + 1, u32::MAX]
+            .into_iter()
+            .flat_map(|d| [(d, 0), (d, 1), (d, 2 + d)])
+        {
             let late = d >= LATE;
-            let more = added(&symbols, if late { 0 } else { d.into() });
+            let fill = fill_words(0, from_start);
+            let more = added(&symbols, fill, if late { 0 } else { d.into() });
             // All at their limits after the entry, all small, and one above beside both.
             let met = [0, 1, 2, 3, 4, 5].map(|which| MOST[which] - more[which]);
             let mut cases = vec![(false, met), (false, [0; 6])];
@@ -385,12 +392,14 @@ fn by_entries<W: Write>(calls: &mut Calls<W>, random: &mut Xorshift) -> io::Resu
                 }
             }
             for (above, numbers) in cases {
-                let start = random.pick(&STARTS);
+                let expected = random.pick(&STARTS);
+                let got = expected.wrapping_add(d);
+                let start = got.wrapping_sub(from_start);
                 let before = Kept {
-                    account: account(start, numbers),
+                    account: account(expected, start, numbers),
                     ..odd_run(random, GOING)
                 };
-                let record = frame_record(start.wrapping_add(d), &symbols);
+                let record = frame_record(got, &symbols);
                 let number = match (late, above) {
                     (true, _) => 10,
                     (false, true) => 11,
@@ -415,7 +424,7 @@ fn by_entries<W: Write>(calls: &mut Calls<W>, random: &mut Xorshift) -> io::Resu
 /// A second order has no number, whatever it says and wherever the account stands.
 fn second_orders<W: Write>(calls: &mut Calls<W>, random: &mut Xorshift) -> io::Result<()> {
     for d in AHEAD {
-        for account in [small(random), account(9, MOST), odd_account(random)] {
+        for account in [small(random), account(9, 7, MOST), odd_account(random)] {
             let before = Kept {
                 account,
                 ..odd_run(random, GOING)
@@ -433,28 +442,36 @@ fn second_orders<W: Write>(calls: &mut Calls<W>, random: &mut Xorshift) -> io::R
 fn at_limits<W: Write>(calls: &mut Calls<W>, random: &mut Xorshift) -> io::Result<()> {
     let (good, bad) = (damaged(random), lost(random));
     let d = 1;
-    let frame = added(&good, d);
-    assert!(frame.iter().all(|&more| more > 0));
-    for (symbols, more) in [(&good, frame), (&bad, added(&bad, d))] {
-        for which in 0..6 {
-            for edge in edges(MOST[which], more[which]) {
-                let mut numbers = [7; 6];
-                numbers[which] = edge;
-                let mut run = Kept {
-                    account: account(9, numbers),
-                    ..odd_run(random, GOING)
-                };
-                let record = frame_record(9 + d as u32, symbols);
-                step(calls, &mut run, &record)?;
+    let got = 9 + d as u32;
+    for symbols in [&good, &bad] {
+        for start in [7, got - 1, got] {
+            let fill = fill_words(start, got);
+            let more = added(symbols, fill, d);
+            if symbols == &good && fill < FRAME_WORDS {
+                assert!(more.iter().all(|&more| more > 0));
+            }
+            for which in 0..6 {
+                for edge in edges(MOST[which], more[which]) {
+                    let mut numbers = [7; 6];
+                    numbers[which] = edge;
+                    let mut run = Kept {
+                        account: account(9, start, numbers),
+                        ..odd_run(random, GOING)
+                    };
+                    let record = frame_record(got, symbols);
+                    step(calls, &mut run, &record)?;
+                }
             }
         }
-        for start in STARTS {
+        for expected in STARTS {
             for d in AHEAD {
+                let got = expected.wrapping_add(d);
+                let start = start_near(random, got);
                 let mut run = Kept {
-                    account: account(start, [7; 6]),
+                    account: account(expected, start, [7; 6]),
                     ..odd_run(random, GOING)
                 };
-                let record = frame_record(start.wrapping_add(d), symbols);
+                let record = frame_record(got, symbols);
                 step(calls, &mut run, &record)?;
             }
         }
@@ -506,13 +523,16 @@ impl<'a, W: Write> Host<'a, W> {
     }
 }
 
-/// Frames in order, of which every tenth has a flagged word; the verdict turns at the last.
+/// Frames in order, of which every tenth has a flagged word, the first among its fill, and the second
+/// frame this word; the verdict turns at the last.
 fn measured<W: Write>(calls: &mut Calls<W>, random: &mut Xorshift) -> io::Result<()> {
-    for (start, count, allowed, last) in [
-        (u32::MAX - 99, 300, 30, PASS),
-        (7, 60, 5, FAIL),
-        (0, 1, 1, PASS),
-        (u32::MAX, 1, 0, FAIL),
+    for (start, count, allowed, of_second, last) in [
+        (u32::MAX - 99, 300, 29, 63, PASS),
+        (7, 60, 5, 64, FAIL),
+        (0, 1, u32::MAX, 0, NOT_MEASURED),
+        (u32::MAX, 2, 0, 63, PASS),
+        (u32::MAX - 1, 2, 0, 64, FAIL),
+        (5, 2, 1, 383, PASS),
     ] {
         let mut host = Host::new(calls, random)?;
         assert_eq!(
@@ -520,12 +540,20 @@ fn measured<W: Write>(calls: &mut Calls<W>, random: &mut Xorshift) -> io::Result
             NOT_MEASURED
         );
         for n in 0..count {
-            let flagged = n % 10 == 0;
+            let flagged = match n {
+                1 => Some(of_second),
+                _ if n % 10 == 0 => Some(0),
+                _ => None,
+            };
             let number = start.wrapping_add(n);
             let verdict = host.frame(random, number, |random, symbols| {
-                flip_any(random, symbols, 0, if flagged { 3 } else { 0 });
-                for word in random.choose(FRAME_WORDS - 1, 40) {
-                    flip_any(random, symbols, word + 1, 1 + word % 2);
+                for word in random.choose(FRAME_WORDS, 40) {
+                    if flagged != Some(word) {
+                        flip_any(random, symbols, word, 1 + word % 2);
+                    }
+                }
+                if let Some(word) = flagged {
+                    flip_any(random, symbols, word, 3);
                 }
             })?;
             assert_eq!(verdict, if n + 1 < count { NOT_MEASURED } else { last });

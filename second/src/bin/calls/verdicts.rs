@@ -1,8 +1,9 @@
 //! Verdicts on numbers, and the same numbers as those of a run.
 //!
-//! Of every 18 three pass with as many flagged words as allowed and three fail by one more; ten miss
-//! a condition by as little as can be or by 2^32 or 2^64; one has an arbitrary allowance, and one is
-//! of arbitrary numbers.
+//! Of every 22 three pass with as many flagged words as allowed and three fail by one more; twelve
+//! miss a condition by as little as can be, by words of fill, or by 2^32 or 2^64; one is of two frames
+//! with nearly every word flagged or allowed; one has an arbitrary allowance, one is of no frame, of
+//! one or of two without tallies, and one of arbitrary numbers.
 
 use crate::out::Calls;
 use second::account::account;
@@ -23,11 +24,11 @@ type Asked = ([u32; 3], [u64; 6]);
 /// A measured run with as many flagged words as allowed, or so many more.
 fn measured(random: &mut Xorshift, more: u64) -> Asked {
     let asked = match random.below(3) {
-        0 => 1 + random.below(3),
-        1 => 1 + random.below(1_000_000),
-        _ => 1 + random.below(u32::MAX.into()),
+        0 => 2 + random.below(3),
+        1 => 2 + random.below(999_999),
+        _ => 2 + random.below(u64::from(u32::MAX) - 1),
     };
-    let total = 384 * asked;
+    let total = 384 * asked - 448;
     let most = (total - more).min(u32::MAX.into());
     let allowed = match random.below(6) {
         0 => 0,
@@ -43,10 +44,10 @@ fn measured(random: &mut Xorshift, more: u64) -> Asked {
 }
 
 fn some_verdict(random: &mut Xorshift, call: u64) -> Asked {
-    let (mut order, mut numbers) = measured(random, (call + call / 18) % 2);
+    let (mut order, mut numbers) = measured(random, (call + call / 22) % 2);
     let either = random.pick(&[1, u64::MAX]);
     let tally = 2 + random.below(4) as usize;
-    match call % 18 {
+    match call % 22 {
         0..=5 => {}
         6 => (order[0], numbers) = (0, [0; 6]),
         7 => order[0] = 0,
@@ -74,6 +75,31 @@ fn some_verdict(random: &mut Xorshift, call: u64) -> Asked {
             }
         },
         16 => order[1] = any(random) as u32,
+        // As if fill were tallied, or left out twice.
+        17 => {
+            let words = random.pick(&[63u64, 64, 65, 128, 320, 384, 447, 448, 449, 512, 896]);
+            let by = random.pick(&[words, words.wrapping_neg()]);
+            numbers[tally] = numbers[tally].wrapping_add(by);
+        }
+        // So few frames have no right total, but for 2^64 or where a difference stops at 0.
+        18 => {
+            let few = random.below(2);
+            let right = (384 * few).wrapping_sub(448);
+            let total = random.pick(&[0, 1, 63, 64, 320, 384, 448, 704, right, right, right]);
+            (order[0], numbers) = (few as u32, [few, 0, 0, 0, 0, 0]);
+            numbers[2 + random.below(4) as usize] = total;
+            order[1] = random.pick(&[0, 1, order[1], u32::MAX]);
+        }
+        19 => {
+            let few = random.below(3);
+            (order[0], numbers) = (few as u32, [few, 0, 0, 0, 0, 0]);
+        }
+        20 => {
+            let flagged = random.pick(&[0, 1, 319, 320]);
+            let allowed = random.pick(&[0, 1, 318, 319, 320, 321, u32::MAX]);
+            order = [2, allowed, 0];
+            numbers = [2, 0, 320 - flagged, 0, 0, flagged];
+        }
         _ => {
             order = order.map(|_| any(random) as u32);
             numbers = numbers.map(|_| any(random));
@@ -98,6 +124,7 @@ pub fn write<W: Write>(calls: &mut Calls<W>, random: &mut Xorshift) -> io::Resul
             asked: order[0],
             allowed: order[1],
             account: account(
+                any(random) as u32,
                 any(random) as u32,
                 [accepted, missing, clean, one, two, flagged],
             ),

@@ -1,0 +1,173 @@
+-- What a frame adds, by its number: `DueByNumber`, `AddsDue` and `Brings`; and `FewerThanTwo`.
+-- Assumes nothing.
+use mathlib.Core.Path.{_≡_, refl, sym, ap, _∙_}
+use mathlib.Core.Logic.{_≢_}
+use mathlib.Core.Bool.{Bool, true, false, cond, not, _&&_}
+use mathlib.Core.List.{List}
+use Prim.Native.Nat.{ℕ, zero, suc, _+_, _^_, _%_, _≤_, _<_}
+use native.Mathlib.Nat.{add-zero}
+use native.Mathlib.Omega.{arith}
+use lib.Dec.{eqb, leb}
+use lib.ListN.{getD}
+use borrow.Author.Tests.{eq-eqb, ne-eqb, le-leb, lt-leb, leb-true}
+use Rattle.bits.specs.definitions.Bits.{count}
+use Rattle.bits.proofs.Count.{count-cong, count-pos}
+use Rattle.account.specs.definitions.Account.{ahead, byNumber, due, tallied, counted, talliesOf, total, noWords, added}
+use Rattle.account.specs.definitions.Account.{withFrame, withLoss, frameEntered, lossEntered, verdict}
+use Rattle.account.specs.statements.Fill.{DueByNumber, AddsDue, Brings, FewerThanTwo}
+use Rattle.account.specs.declared.Account.{Account}
+use Rattle.account.specs.declared.Verdict.the-variants.{NotMeasured}
+use Rattle.account.proofs.AcceptedEntry.{frame-taken}
+use Rattle.account.proofs.VerdictMeaning.{too-few, not-measured, stopped-run}
+
+-- ---- by number
+
+module _ {A : Type 0} (a : Account) (got : ℕ) (first second later : A) where
+  pub at-start : ahead got (a .start) ≡ 0 → byNumber a got first second later ≡ first
+  at-start e = rw (eq-eqb _ _ e) refl
+
+  pub at-next : ahead got (a .start) ≡ 1 → byNumber a got first second later ≡ second
+  at-next e = rw (ne-eqb (ahead got (a .start)) 0 (omega arith), eq-eqb _ _ e) refl
+
+  pub at-later : 2 ≤ ahead got (a .start) → byNumber a got first second later ≡ later
+  at-later h = rw (ne-eqb (ahead got (a .start)) 0 (omega arith), ne-eqb (ahead got (a .start)) 1 (omega arith)) refl
+
+pub due-by-number : DueByNumber
+unfolding ahead
+due-by-number a got hs hg = (
+  λ e. let z = zero-ahead e in (at-start a got 0 320 384 z, λ place. at-start a got false (leb 64 place) true z),
+  λ e. let z = one-ahead e in (at-next a got 0 320 384 z, λ place. at-next a got false (leb 64 place) true z),
+  λ m n. let z = further m n in (at-later a got 0 320 384 z, λ place. at-later a got false (leb 64 place) true z),
+)
+  where
+    zero-ahead : got ≡ a .start → ahead got (a .start) ≡ 0
+    zero-ahead e = omega arith
+
+    one-ahead : got ≡ (a .start + 1) % 2 ^ 32 → ahead got (a .start) ≡ 1
+    one-ahead e = omega arith
+
+    further : got ≢ a .start → got ≢ (a .start + 1) % 2 ^ 32 → 2 ≤ ahead got (a .start)
+    further m n = omega arith
+
+-- ---- the tallied words, from their first place on
+
+-- in code
+by-place : (x y : Bool) (word : ℕ) → word < 384 → leb (cond x 384 (cond y 64 0)) word ≡ cond x false (cond y (leb 64 word) true)
+by-place true y word h = lt-leb 384 word (omega arith)
+by-place false true word h = refl
+by-place false false word h = le-leb 0 word (omega arith)
+
+pub from-first : (a : Account) (got : ℕ) (flags : List ℕ) (v first : ℕ) → first ≡ byNumber a got 384 64 0
+    → count (λ word. leb first word && eqb (getD flags word 0) v) 384 ≡ counted a got flags v
+unfolding counted
+from-first a got flags v first e =
+    rw e (count-cong 384 _ _ (λ word h k. by-place (eqb (ahead got (a .start)) 0) (eqb (ahead got (a .start)) 1) word h k && eqb (getD flags word 0) v))
+
+pub first-inside : (a : Account) (got : ℕ) → byNumber a got 384 64 0 ≤ 384
+first-inside a got = go (eqb (ahead got (a .start)) 0) (eqb (ahead got (a .start)) 1)
+  where
+    go : (x y : Bool) → cond x 384 (cond y 64 0) ≤ 384
+    go true y = omega arith
+    go false true = omega arith
+    go false false = omega arith
+
+-- how many they are
+how-many : (x y : Bool) → count (λ word. cond x false (cond y (leb 64 word) true)) 384 ≡ cond x 0 (cond y 320 384)
+unfolding count
+how-many true y = refl
+how-many false true = refl
+how-many false false = refl
+
+-- ---- four flags, and each byte up to 3 is one
+
+one-of-four : (x : ℕ) → _≡_ {A = ℕ} (cond (eqb x 0) 1 0 + cond (eqb x 1) 1 0 + cond (eqb x 2) 1 0 + cond (eqb x 3) 1 0) (cond (leb x 3) 1 0)
+one-of-four zero = refl
+one-of-four (suc zero) = refl
+one-of-four (suc (suc zero)) = refl
+one-of-four (suc (suc (suc zero))) = refl
+one-of-four (suc (suc (suc (suc x)))) =
+    let y = suc (suc (suc (suc x))) in
+    rw (lt-leb y 3 (omega arith), ne-eqb y 0 (omega arith), ne-eqb y 1 (omega arith), ne-eqb y 2 (omega arith), ne-eqb y 3 (omega arith)) refl
+
+-- of the words that pass a test
+four-in-all : (test : ℕ → Bool) (flags : List ℕ) (n : ℕ)
+    → count (λ w. test w && eqb (getD flags w 0) 0) n + count (λ w. test w && eqb (getD flags w 0) 1) n + count (λ w. test w && eqb (getD flags w 0) 2) n
+    + count (λ w. test w && eqb (getD flags w 0) 3) n ≡ count (λ w. test w && leb (getD flags w 0) 3) n
+unfolding count
+four-in-all test flags zero = refl
+four-in-all test flags (suc n) = omega (arith, of-this (test n), four-in-all test flags n)
+  where
+    of-this : (b : Bool)
+        → cond (b && eqb (getD flags n 0) 0) 1 0 + cond (b && eqb (getD flags n 0) 1) 1 0 + cond (b && eqb (getD flags n 0) 2) 1 0
+        + cond (b && eqb (getD flags n 0) 3) 1 0 ≡ cond (b && leb (getD flags n 0) 3) 1 0
+    of-this true = one-of-four (getD flags n 0)
+    of-this false = refl
+
+-- a test that all of those pass that pass another
+split : (p q : ℕ → Bool) (n : ℕ) → count (λ i. p i && q i) n + count (λ i. p i && not (q i)) n ≡ count p n
+unfolding count
+split p q zero = refl
+split p q (suc n) = omega (arith, of-this (p n) (q n), split p q n)
+  where
+    of-this : (x y : Bool) → cond (x && y) 1 0 + cond (x && not y) 1 0 ≡ cond x 1 0
+    of-this true true = refl
+    of-this true false = refl
+    of-this false y = refl
+
+count-all : (p q : ℕ → Bool) (n : ℕ) → count (λ i. p i && q i) n ≡ count p n → (i : ℕ) → i < n → p i ≡ true → q i ≡ true
+count-all p q n e i h t = go (q i) refl
+  where
+    go : (b : Bool) → q i ≡ b → q i ≡ true
+    go true f = f
+    go false f = absurd (let s = split p q n in let c = count-pos (λ j. p j && not (q j)) n i h (rw (t, f) refl) in omega arith)
+
+pub brings : Brings
+unfolding counted
+brings a got flags = (
+  λ e place h t. leb-true (getD flags place 0) 3
+      (count-all (tallied a got) (λ w. leb (getD flags w 0) 3) 384 (sym all ∙ e ∙ sym as-due) place h t),
+  λ f. all ∙ count-cong 384 _ _ (λ w h. small w h (tallied a got w) refl f) ∙ as-due,
+)
+  where
+    all : total (talliesOf a got flags) ≡ count (λ w. tallied a got w && leb (getD flags w 0) 3) 384
+    all = four-in-all (tallied a got) flags 384
+
+    as-due : count (tallied a got) 384 ≡ due a got
+    as-due = how-many (eqb (ahead got (a .start)) 0) (eqb (ahead got (a .start)) 1)
+
+    small : (w : ℕ) → w < 384 → (b : Bool) → tallied a got w ≡ b → ((place : ℕ) → place < 384 → tallied a got place ≡ true → getD flags place 0 ≤ 3)
+        → (tallied a got w && leb (getD flags w 0) 3) ≡ tallied a got w
+    small w h true e f = rw (e, le-leb (getD flags w 0) 3 (f w h e)) refl
+    small w h false e f = rw e refl
+
+-- ---- entries
+
+-- the account that an entry leaves, the new one or the old
+either : {A : Type 0} (of : Account → A) (b : Bool) (new old : Account) → of new ≡ of old → of (cond b new old) ≡ of old
+either of true new old e = e
+either of false new old e = refl
+
+pub adds-due : AddsDue
+unfolding frameEntered lossEntered
+adds-due a got = (
+  λ t. (
+    λ z. let T = frame-taken a got t z in ap (λ (x : Account). total (x .words)) (T .taken) ∙ (let d = T .all-due in omega arith),
+    either (λ x. x .start) (eqb (frameEntered a got t .refusal) 0) (withFrame a got t) a refl,
+  ),
+  either (λ x. x .words) (eqb (lossEntered a got .refusal) 0) (withLoss a got) a none,
+  either (λ x. x .start) (eqb (lossEntered a got .refusal) 0) (withLoss a got) a refl,
+)
+  where
+    none : added (a .words) noWords ≡ a .words
+    none =
+        let w = a .words in
+        λ i. record { clean = add-zero (w .clean) i; one = add-zero (w .one) i; two = add-zero (w .two) i; flagged = add-zero (w .flagged) i }
+
+-- ---- an order for one frame
+
+pub fewer-than-two : FewerThanTwo
+fewer-than-two asked allowed a stopped h = go stopped refl
+  where
+    go : (b : Bool) → stopped ≡ b → verdict asked allowed a stopped ≡ NotMeasured
+    go true e = sym (stopped-run asked allowed a stopped e)
+    go false e = sym (not-measured asked allowed a stopped e false (too-few asked a h) refl)
