@@ -45,7 +45,7 @@ enum {
   /* by lr800_account_enter, and 10 and 11 by lr800_account_lose and lr800_run_step */
   LR800_LATE = 10,                /* the frame's number is late: 2^31 or more after the expected one, round 2^32 */
   LR800_ABOVE_LIMIT = 11,         /* after the entry, accepted or missing frames would stand above 1,000,000, or some tally above 384,000,000 */
-  LR800_WRONG_TALLIES = 12,       /* the frame's tallies are not those due to its number, 0, 320 or 384: some of its tallied flag bytes are above 3 */
+  LR800_WRONG_TALLIES = 12,       /* fewer words tallied than the frame's number asks for: some of its tallied flag bytes are above 3 */
   /* by lr800_run_step */
   LR800_MORE_THAN_ONE = 22        /* more bytes than one record: more stand behind a whole record of lawful length, version and kind */
 };
@@ -94,7 +94,8 @@ uint32_t lr800_receive(const uint8_t *input, size_t input_length, uint8_t *store
 
 /* The next expected number, the start number, frames accepted and missing, and of the words tallied those with 0, 1 or 2 bits mended and those flagged. Any
  * numbers are lawful. Neither a frame nor a loss changes the start number: by it an entry knows which words to tally.
- * Before 3.0.0 no account had a start number: a host made for a version before must be compiled again, and open the accounts again that it has kept. */
+ * Before 3.0.0 no account had a start number. A host made for a version before must be compiled again; a run or an account that it began cannot go on, and must
+ * be opened again and begin with its first record. */
 typedef struct lr800_account {
   uint32_t expected;
   uint32_t start;

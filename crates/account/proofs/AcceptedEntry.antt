@@ -2,12 +2,13 @@
 -- Assumes nothing.
 use mathlib.Core.Path.{_≡_, refl}
 use mathlib.Core.Bool.{Bool, true, false, cond}
-use Prim.Native.Nat.{ℕ}
+use Prim.Native.Nat.{ℕ, _+_}
 use native.Mathlib.Omega.{arith}
 use lib.Dec.{eqb}
 use borrow.Author.Tests.{eq-eqb, eqb-true}
-use Rattle.account.specs.definitions.Account.{total, due, ahead, late, grown, over, withFrame, withLoss, frameEntered, lossEntered}
+use Rattle.account.specs.definitions.Account.{total, due, noWords, ahead, late, grown, over, withFrame, withLoss, answer, frameEntered, lossEntered}
 use Rattle.account.specs.declared.Account.{Account}
+use Rattle.account.specs.declared.Entry.{Entry}
 use Rattle.account.specs.declared.Tallies.{Tallies}
 
 -- nothing refuses: neither late nor above a limit, and of the words due
@@ -47,3 +48,15 @@ module _ (a : Account) (got : ℕ) where
       → record { refusal = 0; account = grown a got 1 d t } ≡ frameEntered a got t
   unfolding frameEntered
   frame-done t d e l o w = rw (← e, l, o, eq-eqb (total t) (due a got) w) refl
+
+  -- an entry's answer by the tests that it makes: d frames before it, o whether a limit is passed, r whether the tallies are of the words due
+  module _ (k d m : ℕ) (o r : Bool) (n : ℕ) (t : Tallies) (e : Entry)
+      (ahead-is : d ≡ ahead got (a .expected)) (over-is : o ≡ over (grown a (a .expected) k m t))
+      (number-is : n ≡ cond (late d) 10 (cond o 11 (cond r 0 12))) (is : e ≡ answer n (grown a got k m t) a) where
+    pub frame-by-tests : k ≡ 1 → m ≡ d → r ≡ eqb (total t) (due a got) → e ≡ frameEntered a got t
+    unfolding frameEntered over
+    frame-by-tests k-is m-is r-is = rw (is, number-is, over-is, r-is, m-is, k-is, ahead-is) refl
+
+    pub loss-by-tests : k ≡ 0 → m ≡ d + 1 → r ≡ true → t ≡ noWords → e ≡ lossEntered a got
+    unfolding lossEntered over
+    loss-by-tests k-is m-is r-is t-is = rw (is, number-is, over-is, r-is, t-is, m-is, k-is, ahead-is) refl

@@ -1,23 +1,20 @@
--- What a frame adds, by its number: `DueByNumber`, `AddsDue` and `Brings`; and `FewerThanTwo`.
+-- What is due to a frame, by its number: `DueByNumber` and `Brings`; and `FewerThanTwo`.
 -- Assumes nothing.
-use mathlib.Core.Path.{_≡_, refl, sym, ap, _∙_}
+use mathlib.Core.Path.{_≡_, refl, sym, _∙_, subst}
 use mathlib.Core.Logic.{_≢_}
 use mathlib.Core.Bool.{Bool, true, false, cond, not, _&&_}
 use mathlib.Core.List.{List}
 use Prim.Native.Nat.{ℕ, zero, suc, _+_, _^_, _%_, _≤_, _<_}
-use native.Mathlib.Nat.{add-zero}
 use native.Mathlib.Omega.{arith}
 use lib.Dec.{eqb, leb}
 use lib.ListN.{getD}
 use borrow.Author.Tests.{eq-eqb, ne-eqb, le-leb, lt-leb, leb-true}
 use Rattle.bits.specs.definitions.Bits.{count}
-use Rattle.bits.proofs.Count.{count-cong, count-pos}
-use Rattle.account.specs.definitions.Account.{ahead, byNumber, due, tallied, counted, talliesOf, total, noWords, added}
-use Rattle.account.specs.definitions.Account.{withFrame, withLoss, frameEntered, lossEntered, verdict}
-use Rattle.account.specs.statements.Fill.{DueByNumber, AddsDue, Brings, FewerThanTwo}
+use Rattle.bits.proofs.Count.{count-cong, count-le, count-pos}
+use Rattle.account.specs.definitions.Account.{ahead, byNumber, due, tallied, counted, talliesOf, total, verdict}
+use Rattle.account.specs.statements.Fill.{DueByNumber, Brings, FewerThanTwo}
 use Rattle.account.specs.declared.Account.{Account}
 use Rattle.account.specs.declared.Verdict.the-variants.{NotMeasured}
-use Rattle.account.proofs.AcceptedEntry.{frame-taken}
 use Rattle.account.proofs.VerdictMeaning.{too-few, not-measured, stopped-run}
 
 -- ---- by number
@@ -52,16 +49,16 @@ due-by-number a got hs hg = (
 -- ---- the tallied words, from their first place on
 
 -- in code
-by-place : (x y : Bool) (word : ℕ) → word < 384 → leb (cond x 384 (cond y 64 0)) word ≡ cond x false (cond y (leb 64 word) true)
-by-place true y word h = lt-leb 384 word (omega arith)
-by-place false true word h = refl
-by-place false false word h = le-leb 0 word (omega arith)
+by-place : (x y : Bool) (place : ℕ) → place < 384 → leb (cond x 384 (cond y 64 0)) place ≡ cond x false (cond y (leb 64 place) true)
+by-place true y place h = lt-leb 384 place (omega arith)
+by-place false true place h = refl
+by-place false false place h = le-leb 0 place (omega arith)
 
 pub from-first : (a : Account) (got : ℕ) (flags : List ℕ) (v first : ℕ) → first ≡ byNumber a got 384 64 0
-    → count (λ word. leb first word && eqb (getD flags word 0) v) 384 ≡ counted a got flags v
+    → count (λ place. leb first place && eqb (getD flags place 0) v) 384 ≡ counted a got flags v
 unfolding counted
 from-first a got flags v first e =
-    rw e (count-cong 384 _ _ (λ word h k. by-place (eqb (ahead got (a .start)) 0) (eqb (ahead got (a .start)) 1) word h k && eqb (getD flags word 0) v))
+    rw e (count-cong 384 _ _ (λ place h k. by-place (eqb (ahead got (a .start)) 0) (eqb (ahead got (a .start)) 1) place h k && eqb (getD flags place 0) v))
 
 pub first-inside : (a : Account) (got : ℕ) → byNumber a got 384 64 0 ≤ 384
 first-inside a got = go (eqb (ahead got (a .start)) 0) (eqb (ahead got (a .start)) 1)
@@ -72,11 +69,15 @@ first-inside a got = go (eqb (ahead got (a .start)) 0) (eqb (ahead got (a .start
     go false false = omega arith
 
 -- how many they are
-how-many : (x y : Bool) → count (λ word. cond x false (cond y (leb 64 word) true)) 384 ≡ cond x 0 (cond y 320 384)
+how-many : (x y : Bool) → count (λ place. cond x false (cond y (leb 64 place) true)) 384 ≡ cond x 0 (cond y 320 384)
 unfolding count
 how-many true y = refl
 how-many false true = refl
 how-many false false = refl
+
+-- no more than all
+pub due-most : (a : Account) (got : ℕ) → due a got ≤ 384
+due-most a got = subst (λ (n : ℕ). n ≤ 384) (how-many (eqb (ahead got (a .start)) 0) (eqb (ahead got (a .start)) 1)) (count-le (tallied a got) 384)
 
 -- ---- four flags, and each byte up to 3 is one
 
@@ -139,29 +140,6 @@ brings a got flags = (
         → (tallied a got w && leb (getD flags w 0) 3) ≡ tallied a got w
     small w h true e f = rw (e, le-leb (getD flags w 0) 3 (f w h e)) refl
     small w h false e f = rw e refl
-
--- ---- entries
-
--- the account that an entry leaves, the new one or the old
-either : {A : Type 0} (of : Account → A) (b : Bool) (new old : Account) → of new ≡ of old → of (cond b new old) ≡ of old
-either of true new old e = e
-either of false new old e = refl
-
-pub adds-due : AddsDue
-unfolding frameEntered lossEntered
-adds-due a got = (
-  λ t. (
-    λ z. let T = frame-taken a got t z in ap (λ (x : Account). total (x .words)) (T .taken) ∙ (let d = T .all-due in omega arith),
-    either (λ x. x .start) (eqb (frameEntered a got t .refusal) 0) (withFrame a got t) a refl,
-  ),
-  either (λ x. x .words) (eqb (lossEntered a got .refusal) 0) (withLoss a got) a none,
-  either (λ x. x .start) (eqb (lossEntered a got .refusal) 0) (withLoss a got) a refl,
-)
-  where
-    none : added (a .words) noWords ≡ a .words
-    none =
-        let w = a .words in
-        λ i. record { clean = add-zero (w .clean) i; one = add-zero (w .one) i; two = add-zero (w .two) i; flagged = add-zero (w .flagged) i }
 
 -- ---- an order for one frame
 

@@ -1,15 +1,17 @@
--- `KeptFromOrder`, by whether an entry is refused; and `RefusedKeeps`.
+-- What entries keep and add, by whether they are refused: `RefusedKeeps`, `AddsDue` and `KeptFromOrder`.
 -- Assumes nothing.
-use mathlib.Core.Path.{_≡_, refl, sym, subst}
+use mathlib.Core.Path.{_≡_, refl, sym, ap, _∙_, subst}
 use mathlib.Core.Logic.{_≢_}
 use mathlib.Core.Bool.{Bool, true, false, cond}
 use Prim.Native.Nat.{ℕ, zero, suc, _+_, _%_, _^_, _<_}
+use native.Mathlib.Nat.{add-zero}
 use native.Mathlib.Decide.{ℕ-discrete}
 use native.Mathlib.Omega.{arith}
 use borrow.Author.Tests.{ne-eqb}
-use Rattle.account.specs.definitions.Account.{ahead, frameEntered, lossEntered}
+use Rattle.account.specs.definitions.Account.{total, noWords, added, ahead, frameEntered, lossEntered}
 use Rattle.account.specs.definitions.Kept.{accountAfter}
 use Rattle.account.specs.statements.Kept.{KeptFromOrder, RefusedKeeps}
+use Rattle.account.specs.statements.Fill.{AddsDue}
 use Rattle.account.specs.declared.Account.{Account}
 use Rattle.account.specs.declared.Entry.{Entry}
 use Rattle.account.specs.declared.Tallies.{Tallies}
@@ -35,6 +37,21 @@ entry-keeps P a e p old new = go (ℕ-discrete (e .refusal) 0)
     go : Dec (e .refusal ≡ 0) → P (e .account)
     go (yes z) = new z
     go (no n) = subst P (sym (old n)) p
+
+pub adds-due : AddsDue
+adds-due a got = (
+  λ t. (
+    λ z. let T = frame-taken a got t z in ap (λ (x : Account). total (x .words)) (T .taken) ∙ (let d = T .all-due in omega arith),
+    entry-keeps (λ x. x .start ≡ a .start) a (frameEntered a got t) refl (refused-keeps a got .0 t) (λ z. rw (frame-taken a got t z .taken) refl),
+  ),
+  entry-keeps (λ x. x .words ≡ a .words) a (lossEntered a got) refl (refused-keeps a got .1) (λ z. rw (loss-taken a got z .taken) none),
+  entry-keeps (λ x. x .start ≡ a .start) a (lossEntered a got) refl (refused-keeps a got .1) (λ z. rw (loss-taken a got z .taken) refl),
+)
+  where
+    none : added (a .words) noWords ≡ a .words
+    none =
+        let w = a .words in
+        λ i. record { clean = add-zero (w .clean) i; one = add-zero (w .one) i; two = add-zero (w .two) i; flagged = add-zero (w .flagged) i }
 
 -- the account follows on, and its frames come in their turn
 abbrev Kept : ℕ → Account → Type 0

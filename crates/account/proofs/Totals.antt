@@ -2,8 +2,8 @@
 -- Assumes nothing.
 use mathlib.Core.Path.{_≡_, refl, sym, ap, _∙_}
 use mathlib.Core.Bool.{false}
-use mathlib.Core.Logic.{_⊎_, inl, inr}
-use Prim.Native.Nat.{ℕ, _+_, _*_, _-_, _%_, _^_, _≤_}
+use mathlib.Core.Logic.{inl, inr}
+use Prim.Native.Nat.{ℕ, _+_, _-_, _%_, _^_, _≤_}
 use native.Mathlib.Decide.{ℕ-discrete}
 use native.Mathlib.Omega.{arith}
 use Rattle.account.specs.definitions.Account.{total, due, opened, ahead, over, withFrame, frameEntered, lossEntered}
@@ -13,9 +13,6 @@ use Rattle.account.specs.declared.Tallies.{Tallies}
 use Rattle.account.proofs.Limits.{under}
 use Rattle.account.proofs.AcceptedEntry.{frame-taken, loss-taken}
 use Rattle.account.proofs.Fill.{at-start, at-next, at-later}
-
-abbrev Lacking : Account → Type 0
-Lacking a = (x : ℕ) × (total (a .words) + x ≡ 384 * a .accepted) × ((x ≡ 0) ⊎ (x ≡ 64) ⊎ (x ≡ 384) ⊎ (x ≡ 448))
 
 -- what holds from a new order on. A number lies as far after the start number as frames are accepted or missing, and then after the expected one
 pub record InTurn (a : Account) : Type 0 where
@@ -64,32 +61,35 @@ module _ (a : Account) (got : ℕ) (I : InTurn a) where
   -- a frame by its turn: the first brings no words, the second 320, a later one 384
   frame-totals : (t : Tallies) → over (withFrame a got t) ≡ false → total t ≡ due a got
       → (a .accepted + 1 + (a .missing + ahead got (a .expected)) ≤ 1 → total (withFrame a got t .words) ≡ 0) × Totals (withFrame a got t)
-  frame-totals t w e = go (ℕ-discrete (ahead got (a .start)) 0) (ℕ-discrete (ahead got (a .start)) 1)
+  frame-totals t w e = go (ℕ-discrete (ahead got (a .start)) 0) (ℕ-discrete (ahead got (a .start)) 1) (ℕ-discrete (a .accepted) 0)
     where
       is : ahead got (a .start) ≡ a .accepted + a .missing + ahead got (a .expected)
       is = let u = under _ w in let v = u .0 in let x = u .1 in let z = I .turn got in omega arith
 
-      go : Dec (ahead got (a .start) ≡ 0) → Dec (ahead got (a .start) ≡ 1)
+      go : Dec (ahead got (a .start) ≡ 0) → Dec (ahead got (a .start) ≡ 1) → Dec (a .accepted ≡ 0)
           → (a .accepted + 1 + (a .missing + ahead got (a .expected)) ≤ 1 → total (withFrame a got t .words) ≡ 0) × Totals (withFrame a got t)
-      go (yes z) y =
+      go (yes z) o f =
           let i = is in
           let none = I .none-yet (omega arith) in
           let brought : total t ≡ 0 = e ∙ at-start a got 0 320 384 z in (
             λ _. omega arith,
             record { exactly = λ m h. absurd (omega arith); alone = λ _ _. omega arith; lacking = (384, omega arith, inr (inr (inl refl))) },
           )
-      go (no z) (yes o) =
+      go (no z) (yes o) (yes f) =
           let i = is in
           let none = I .none-yet (omega arith) in
           let brought : total t ≡ 320 = e ∙ at-next a got 0 320 384 o in (
             λ h. absurd (omega arith),
-            record { exactly = λ m h. omega arith; alone = λ m h. absurd (omega arith); lacking = second none brought (ℕ-discrete (a .accepted) 0) },
+            record { exactly = λ m h. absurd (omega arith); alone = λ m h. absurd (omega arith); lacking = (64, omega arith, inr (inl refl)) },
           )
-        where
-          second : total (a .words) ≡ 0 → total t ≡ 320 → Dec (a .accepted ≡ 0) → Lacking (withFrame a got t)
-          second none brought (yes y) = (64, omega arith, inr (inl refl))
-          second none brought (no y) = (448, (let i = is in omega arith), inr (inr (inr refl)))
-      go (no z) (no o) =
+      go (no z) (yes o) (no f) =
+          let i = is in
+          let none = I .none-yet (omega arith) in
+          let brought : total t ≡ 320 = e ∙ at-next a got 0 320 384 o in (
+            λ h. absurd (omega arith),
+            record { exactly = λ m h. omega arith; alone = λ m h. absurd (omega arith); lacking = (448, omega arith, inr (inr (inr refl))) },
+          )
+      go (no z) (no o) f =
           let i = is in
           let brought : total t ≡ 384 = e ∙ at-later a got 0 320 384 (omega arith) in
           let (x, s, c) = I .totals .lacking in (

@@ -52,13 +52,13 @@ const HALF: u32 = 1 << 31;
 // The words of a frame.
 const WORDS: u64 = 384;
 
-// Those of the number after the start number that carry fill: words 0 and 1 of each lane.
+// The words of the number after the start number that carry fill: words 0 and 1 of each lane.
 const NEXT_FILL: u64 = 64;
 
-// Those of it that are tallied.
+// The words tallied of the number after the start number.
 const NEXT_TALLIED: u64 = 320;
 
-// Those of a run that carry fill: all of the frame at the start number, and 64 of the next.
+// The words of a run that carry fill: all of the frame at the start number, and 64 of the next.
 const FILL: u64 = 448;
 
 // 1 where two bytes are the same, else 0.
@@ -74,7 +74,7 @@ fn same(x: u8, v: u8) -> u64
 // How many of the flag bytes from a place on are v.
 fn count_flags(flags: &[u8], first: usize, v: u8) -> u64
     requires { ⌜ (length (now flags) ≡ 384) × (first ≤ 384) ⌝ }
-    ensures { λ r. ⌜ r ≡ count (λ word. leb first word && eqb (getD (now (flags .entry)) word 0) v) 384 ⌝ }
+    ensures { λ r. ⌜ r ≡ count (λ place. leb first place && eqb (getD (now (flags .entry)) place 0) v) 384 ⌝ }
 {
     let mut n: u64 = 0;
     let mut i: usize = first;
@@ -299,6 +299,7 @@ fn measured(asked: u64, a: Account) -> bool
     if asked < 2 {
         return false;
     }
+    // at least 2, so the subtraction does not stop at 0
     let right = adds_up(a.words, WORDS * asked - FILL);
     (a.accepted == asked) & ((a.missing == 0) & right)
 }

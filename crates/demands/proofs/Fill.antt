@@ -7,12 +7,13 @@ use Prim.Native.Nat.{ℕ, zero, suc, _+_, _*_, _-_, _/_, _%_, _^_, _≤_, _<_}
 use native.Mathlib.Decide.{decLt}
 use native.Mathlib.Omega.{arith}
 use lib.Dec.{leb}
-use lib.ListN.{replicate, length-replicate}
-use borrow.Author.Tests.{lt-ltb, le-ltb, ltb-true, ltb-false, le-leb, leb-true, lt-leb, leb-false}
+use lib.ListN.{length}
+use borrow.Author.Tests.{lt-ltb, ltb-true, ltb-false, le-leb, leb-true, lt-leb, leb-false}
 use Rattle.bits.proofs.Fields.{length-bytes}
-use Rattle.lanes.specs.definitions.Permutation.{Places, laneBytes}
-use Rattle.lanes.specs.definitions.Stream.{streamBit, delayed, interleaved}
+use Rattle.lanes.specs.definitions.Permutation.{Places, permuted, laneBytes}
+use Rattle.lanes.specs.definitions.Stream.{streamBit, interleaved}
 use Rattle.lanes.proofs.Bytewise.{frame-bit}
+use Rattle.lanes.proofs.Rows.{delayed-early, delayed-at}
 use Rattle.lanes.proofs.Return.{across, across-lt, permuted-across}
 use Rattle.framing.proofs.Stream.{block-rule}
 use Rattle.account.specs.declared.Account.{Account}
@@ -20,9 +21,8 @@ use Rattle.account.specs.definitions.Account.{ahead, tallied}
 use Rattle.account.proofs.Fill.{at-start, at-next, at-later}
 use Rattle.capture.specs.definitions.Capture.{frameNumber}
 use Rattle.demands.specs.definitions.Fill.{isFill, CarriesFill, freeOfFill, AlwaysCarries}
-use Rattle.demands.specs.definitions.Trial.{Trial}
 use Rattle.demands.specs.statements.Fill.{FillBits, FillWords, TalliedExactly}
-use Rattle.demands.proofs.Trial.{trials-exist}
+use Rattle.demands.proofs.Trial.{undamaged-exist}
 
 -- ---- a bit of an interleaved lane
 
@@ -32,12 +32,14 @@ module _ (ex : Places) (x : ℕ → ℕ → ℕ) (p i : ℕ) where
   delay = 40 * (18 * (i / 40 % 3))
 
   from-before : isFill i ≡ true → interleaved ex x p i ≡ 0
-  unfolding interleaved delayed
-  from-before e = let h = ltb-true (i / 40) (18 * (i / 40 % 3)) e in rw (lt-ltb i delay (omega arith)) refl
+  unfolding interleaved
+  from-before e = let h = ltb-true (i / 40) (18 * (i / 40 % 3)) e in delayed-early delay (permuted ex x p) i (omega arith)
 
   from-stream : isFill i ≡ false → interleaved ex x p i ≡ x (across ex p ((i - delay) / 10)) (i - delay)
-  unfolding interleaved delayed
-  from-stream e = let h = ltb-false (i / 40) (18 * (i / 40 % 3)) e in rw (le-ltb i delay (omega arith)) (permuted-across ex x p (i - delay))
+  unfolding interleaved
+  from-stream e =
+      let h = ltb-false (i / 40) (18 * (i / 40 % 3)) e in
+      delayed-at delay (permuted ex x p) i (i - delay) (omega arith) ∙ permuted-across ex x p (i - delay)
 
 pub fill-bits : FillBits
 fill-bits ex p w q hp hq = (
@@ -84,18 +86,16 @@ module _ (ex : Places) (n v : ℕ) (hv : v < 2) where
   unfolding streamBit lanes-of
   every-bit p i h = frame-bit (λ _ _. v) (λ _ _. hv) p (i % 1320) h (omega arith)
 
-  sent-so : Trial ex n (λ _. replicate 6144 0) lanes-of (λ _. replicate 6144 0) (λ _. replicate 5280 0) (λ _. replicate 384 0)
+  whole : (f : ℕ) → f < n → length (lanes-of f) ≡ 5280
   unfolding lanes-of laneBytes
-  sent-so =
-      trials-exist ex n (λ _. replicate 6144 0) lanes-of (λ _. replicate 6144 0) (λ _. replicate 5280 0) (λ _. replicate 384 0)
-      (λ f h. (length-bytes 5280 (λ _. v), length-replicate {A = ℕ} 6144 0))
+  whole f h = length-bytes 5280 (λ _. v)
 
   -- what is always c, and always a bit of the stream, is v there
   is-sent : (p w q p′ i c : ℕ) → w < 12 * n → p′ < 32 → AlwaysCarries ex p w q (λ lanes. streamBit lanes p′ i) → AlwaysCarries ex p w q (λ lanes. c) → v ≡ c
   is-sent p w q p′ i c h hp A C =
-      let t = sent-so in
-      sym (every-bit p′ i hp) ∙ sym (A n lanes-of _ (t .sentNumbers) (t .frames) (t .sentStores) (t .sent) h)
-      ∙ C n lanes-of _ (t .sentNumbers) (t .frames) (t .sentStores) (t .sent) h
+      let (sentNumbers, numbers, back, flagBytes, U) = undamaged-exist ex n lanes-of whole in
+      sym (every-bit p′ i hp) ∙ sym (A n lanes-of _ sentNumbers (U .frames) (U .sentStores) (U .sent) h)
+      ∙ C n lanes-of _ sentNumbers (U .frames) (U .sentStores) (U .sent) h
 
 -- so a bit of the stream, which can be 0 and can be 1, is not always the same
 not-always : (ex : Places) (p w q p′ i c : ℕ) → p′ < 32 → AlwaysCarries ex p w q (λ lanes. streamBit lanes p′ i) → AlwaysCarries ex p w q (λ lanes. c) → ⊥

@@ -4,7 +4,7 @@ use mathlib.Core.Path.{_≡_, refl, sym, ap, ap₂, _∙_, subst}
 use mathlib.Core.Bool.{Bool, true, false, cond, not, _&&_, false≢true}
 use mathlib.Core.Logic.{_≢_, _⊎_, inl, inr}
 use mathlib.Core.List.{List}
-use Prim.Native.Nat.{ℕ, zero, suc, _+_, _*_, _-_, _%_, _^_, _≤_, _<_}
+use Prim.Native.Nat.{ℕ, zero, suc, _+_, _-_, _%_, _^_, _≤_, _<_}
 use native.Mathlib.Decide.{ℕ-discrete}
 use native.Mathlib.Omega.{arith}
 use lib.Dec.{eqb}
@@ -21,12 +21,12 @@ use Rattle.account.specs.declared.Account.{Account}
 use Rattle.account.specs.declared.Entry.{Entry}
 use Rattle.account.specs.declared.Tallies.{Tallies}
 use Rattle.account.specs.declared.Verdict.the-variants.{NotMeasured}
-use Rattle.account.specs.definitions.Account.{frameLimit, ahead, due, counted, talliesOf, total, opened, grown, over, frameEntered, lossEntered}
+use Rattle.account.specs.definitions.Account.{frameLimit, ahead, due, counted, talliesOf, total, noWords, grown, over, frameEntered, lossEntered}
 use Rattle.account.specs.definitions.Account.{measured, verdict}
 use Rattle.account.proofs.Limits.{under, within}
 use Rattle.account.proofs.AcceptedEntry.{frame-taken, loss-taken, frame-done}
 use Rattle.account.proofs.VerdictMeaning.{measured-means}
-use Rattle.account.proofs.Fill.{at-start, at-next, at-later, brings, fewer-than-two}
+use Rattle.account.proofs.Fill.{due-most, brings, fewer-than-two}
 use Rattle.account.proofs.Totals.{InTurn, opened-in-turn, frame-in-turn, loss-in-turn}
 use Rattle.capture.specs.declared.Read.{Read}
 use Rattle.capture.specs.declared.Read.the-variants.{End, Refused, Order, Frame}
@@ -42,7 +42,7 @@ use Rattle.demands.proofs.Fill.{tallied-free, turn-is}
 
 -- ---- the words of a frame, counted
 
-abbrev pub frameTallies : ℕ → List ℕ → Tallies
+abbrev frameTallies : ℕ → List ℕ → Tallies
 frameTallies k f = record { clean = wordsWith 0 k f; one = wordsWith 1 k f; two = wordsWith 2 k f; flagged = wordsWith 3 k f }
 
 abbrev pub allTallies : (ℕ → List ℕ) → ℕ → Tallies
@@ -65,31 +65,11 @@ module _ (a : Account) (got k : ℕ) (turn : ahead got (a .start) ≡ k) (f : Li
   unfolding counted wordsWith
   counts v = count-cong 384 _ _ (λ i l. ap₂ _&&_ (tallied-free a got k i turn l) (ap (λ (x : ℕ). eqb x v) (flag-at f i l)))
 
-  pub tallies-are : talliesOf a got (receivedFlags f) ≡ frameTallies k f
+  tallies-are : talliesOf a got (receivedFlags f) ≡ frameTallies k f
   tallies-are = rw (counts 0, counts 1, counts 2, counts 3) refl
 
-  pub words-due : total (frameTallies k f) ≡ due a got
+  words-due : total (frameTallies k f) ≡ due a got
   words-due = ap total (sym tallies-are) ∙ words-brought a got f
-
-zero-start : (n : ℕ) → n < 2 ^ 32 → ahead n 0 ≡ n
-unfolding ahead
-zero-start n l = omega arith
-
--- one frame more: the first brings none, the second 320, a later one 384
-one-more : (k : ℕ) (f : List ℕ) → k < 2 ^ 32 → 384 * k - 448 + total (frameTallies k f) ≡ 384 * (k + 1) - 448
-one-more zero f h = let t = zero-start 0 h in let d = words-due (opened 0) 0 0 t f ∙ at-start (opened 0) 0 0 320 384 t in omega arith
-one-more (suc zero) f h = let t = zero-start 1 h in let d = words-due (opened 0) 1 1 t f ∙ at-next (opened 0) 1 0 320 384 t in omega arith
-one-more (suc (suc k)) f h =
-    let n = suc (suc k) in
-    let t = zero-start n h in
-    let d = words-due (opened 0) n n t f ∙ at-later (opened 0) n 0 320 384 (omega arith) in
-    omega arith
-
--- so many in all
-pub all-words : (frames : ℕ → List ℕ) (k : ℕ) → k ≤ frameLimit → total (allTallies frames k) ≡ 384 * k - 448
-unfolding wordsIn
-all-words frames zero h = refl
-all-words frames (suc k) h = omega (arith, all-words frames k (omega arith), one-more k (frames k) (omega arith))
 
 -- ---- frames in their turn
 
@@ -109,22 +89,35 @@ module _ (start : ℕ) (frames : ℕ → List ℕ) where
       let n : suc k ≡ k + 1 = omega arith in
       λ i. record { expected = e i; start = start; accepted = n i; missing = 0; words = allTallies frames (suc k) }
 
-  module _ (hs : start < 2 ^ 32) (k : ℕ) (h : k < frameLimit) where
-    in-turn : ahead (frameNumber start k) start ≡ k
-    in-turn = turn-is start k hs (omega arith)
+  module _ (hs : start < 2 ^ 32) where
+    in-turn : (k : ℕ) → k < frameLimit → ahead (frameNumber start k) start ≡ k
+    in-turn k h = turn-is start k hs (omega arith)
 
-    entered-next : record { refusal = 0; account = allAccepted (suc k) } ≡ frameEntered (allAccepted k) (frameNumber start k) (frameTallies k (frames k))
-    unfolding wordsIn
-    entered-next =
+    -- the next is entered, since what the tallies total keeps each of them within its limit
+    entered-next : (k : ℕ) → k < frameLimit → InTurn (allAccepted k)
+        → record { refusal = 0; account = allAccepted (suc k) } ≡ frameEntered (allAccepted k) (frameNumber start k) (frameTallies k (frames k))
+    entered-next k h I =
         ap (λ (a : Account). record { refusal = 0; account = a }) (next-account k)
         ∙ frame-done (allAccepted k) (frameNumber start k) (frameTallies k (frames k)) 0 (not-ahead k) refl limits
-        (words-due (allAccepted k) (frameNumber start k) k in-turn (frames k))
+        (words-due (allAccepted k) (frameNumber start k) k (in-turn k h) (frames k))
       where
         limits : over (grown (allAccepted k) (frameNumber start k) 1 0 (frameTallies k (frames k))) ≡ false
         limits =
-            let w = all-words frames (suc k) h in
+            let (x, s, c) = I .totals .lacking in
+            let d = words-due (allAccepted k) (frameNumber start k) k (in-turn k h) (frames k) in
+            let m = due-most (allAccepted k) (frameNumber start k) in
             within (grown (allAccepted k) (frameNumber start k) 1 0 (frameTallies k (frames k))) (omega arith) (omega arith) (omega arith) (omega arith)
             (omega arith) (omega arith)
+
+    pub all-in-turn : (k : ℕ) → k ≤ frameLimit → InTurn (allAccepted k)
+    unfolding wordsIn
+    all-in-turn zero h = subst (λ (n : ℕ). InTurn (record { expected = n; start = start; accepted = 0; missing = 0; words = noWords })) (omega arith)
+        (opened-in-turn start)
+    all-in-turn (suc k) h =
+        let I = all-in-turn k (omega arith) in
+        let e = entered-next k h I in
+        subst (λ (x : Entry). InTurn (x .account)) (sym e)
+        (frame-in-turn (allAccepted k) (frameNumber start k) I (frameTallies k (frames k)) (ap (λ (x : Entry). x .refusal) (sym e)))
 
 module _ (start asked allowed : ℕ) (frames : ℕ → List ℕ) where
   -- the run after an order and k frames in their turn
@@ -137,7 +130,7 @@ module _ (start asked allowed : ℕ) (frames : ℕ → List ℕ) where
       rw (
         l,
         tallies-are (allAccepted start frames k) (frameNumber start k) k (in-turn start frames hs k h) (frames k),
-        sym (entered-next start frames hs k h),
+        sym (entered-next start frames hs k h (all-in-turn start frames hs k (omega arith))),
       )
       refl
 

@@ -3,8 +3,8 @@
 use Rattle.demands.specs.statements.Demands.{Demands}
 use Rattle.demands.specs.statements.Calls.{Calls}
 use Rattle.decoder.proofs.Theorems.{mends-two, flagged-exactly, smallest-distance}
-use Rattle.account.proofs.Kept.{kept-from-order}
-use Rattle.account.proofs.Fill.{due-by-number, adds-due, brings, fewer-than-two}
+use Rattle.account.proofs.Kept.{kept-from-order, adds-due}
+use Rattle.account.proofs.Fill.{due-by-number, brings, fewer-than-two}
 use Rattle.traffic.proofs.Signal.{prbs31, direct-state}
 use Rattle.traffic.proofs.Frames.{frame-from, one-after-the-other, one-sequence, traffic-exists, top-bit}
 use Rattle.traffic.proofs.Counts.{what-is-compared, counts-exactly, checks-exist}

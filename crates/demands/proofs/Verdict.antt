@@ -34,7 +34,7 @@ use Rattle.bench.proofs.Walk.{pieces-alike, none-left}
 use Rattle.demands.specs.definitions.Verdict.{Measured, measuredRun, flaggedWords, Stepwise, Examination, Line, Arrived}
 use Rattle.demands.specs.statements.Verdict.{PassExactly, FailExactly, NotMeasuredExactly, ProgramSays, MeasuredOnce, ExaminationsExist, ArrivedAlways}
 use Rattle.demands.specs.statements.Verdict.{NeverPass, OneNotMeasured, AllCounted, AlwaysCounted}
-use Rattle.demands.proofs.Measured.{all-words, walked-counted, ordered-few}
+use Rattle.demands.proofs.Measured.{all-in-turn, walked-counted, ordered-few}
 use Rattle.demands.proofs.Walked.{framePlace, framesIn, found, whole-symbols, ends-inside, record-there, up-to, measured-run, measured-back}
 use Rattle.demands.proofs.Lines.{text-lines, verdict-said}
 
@@ -56,7 +56,7 @@ module _ (s : List ℕ) (B : AllBytes s) where
 -- and a measured capture is given one
 module _ (s : List ℕ) (m : Measured s) where
   all-but-fill : total (measuredRun m .account .words) + 448 ≡ 384 * m .asked
-  all-but-fill = let w = all-words (m .frames) (m .asked) (m .within) in let l = m .atLeastTwo in omega arith
+  all-but-fill = all-in-turn (m .start) (m .frames) (m .numbers .0) (m .asked) (m .within) .totals .exactly refl (m .atLeastTwo)
 
   numbers : MeasuredNumbers (m .asked) (measuredRun m .account)
   numbers = record { at-least-two = m .atLeastTwo; all = refl; none-missing = refl; right = all-but-fill }

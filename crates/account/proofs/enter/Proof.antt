@@ -1,7 +1,9 @@
 -- `account::enter` meets its contract: the tests are the definition's. Assumes nothing.
-use mathlib.Core.Path.{sym, _∙_}
-use Rattle.account.specs.definitions.Account.{late, over, frameEntered}
-use Rattle.account.proofs.AcceptedEntry.{none-refuses}
+use mathlib.Core.Path.{refl, sym, ap, _∙_}
+use native.Mathlib.Omega.{arith}
+use lib.Dec.{eqb}
+use Rattle.account.specs.definitions.Account.{total, late}
+use Rattle.account.proofs.AcceptedEntry.{none-refuses, frame-by-tests}
 use borrow.Author.Needs.{needs}
 use Rattle.account.proofs.enter.Statement.{statement}
 use Rattle.account.proofs.enter.Tie as tie
@@ -12,8 +14,12 @@ entered-requires c κs z =
     (c .before .adds-up .result) (sym (c .refusal-of .ensures) ∙ z) .1
 
 returns : tie.Need-returns
-unfolding frameEntered over
-returns c = cc
+returns c =
+    let x = c .before .before .before .before .before .before .before .args in
+    frame-by-tests (x .a) (x .got) 1 _ (c .before .before .before .before .before .wide32 .result) _ (c .before .before .adds-up .result) _ (x .t) _
+    (c .before .before .before .before .before .before .ahead .ensures) (c .before .before .before .over .ensures)
+    (c .before .refusal-of .ensures) (c .entered .ensures) refl (let e = c .before .before .before .before .before .wide32 .ensures .0 in omega arith)
+    (c .before .before .adds-up .ensures ∙ ap (eqb (total (x .t))) (c .before .before .before .before .by-number .ensures))
 
 pub enter-spec : {M : Type 1} → statement M
 enter-spec =

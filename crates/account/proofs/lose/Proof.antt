@@ -1,8 +1,10 @@
 -- `account::lose` meets its contract: the tests are the definition's. Assumes nothing.
-use mathlib.Core.Path.{sym, _∙_}
+use mathlib.Core.Path.{refl, sym, _∙_}
 use mathlib.Core.Bool.{true}
-use Rattle.account.specs.definitions.Account.{late, over, lossEntered}
-use Rattle.account.proofs.AcceptedEntry.{none-refuses}
+use Prim.Native.Nat.{_+_}
+use native.Mathlib.Omega.{arith}
+use Rattle.account.specs.definitions.Account.{noWords, late}
+use Rattle.account.proofs.AcceptedEntry.{none-refuses, loss-by-tests}
 use borrow.Author.Needs.{needs}
 use Rattle.account.proofs.lose.Statement.{statement}
 use Rattle.account.proofs.lose.Tie as tie
@@ -13,8 +15,11 @@ entered-requires c κs z =
     ∙ z) .1
 
 returns : tie.Need-returns
-unfolding lossEntered over
-returns c = cc
+returns c =
+    let x = c .before .before .before .before .before .args in
+    loss-by-tests (x .a) (x .got) 0 _ (c .before .before .before .wide32 .result + 1) _ true _ noWords _
+    (c .before .before .before .before .ahead .ensures) (c .before .before .over .ensures) (c .before .refusal-of .ensures) (c .entered .ensures)
+    refl (let e = c .before .before .before .wide32 .ensures .0 in omega arith) refl refl
 
 pub lose-spec : {M : Type 1} → statement M
 lose-spec =

@@ -38,7 +38,7 @@ tallied a got place = byNumber a got false (leb 64 place) true
 
 -- how many of a frame's tallied words have the flag v, by its 384 flag bytes
 unfoldable pub counted : Account → ℕ → List ℕ → ℕ → ℕ
-counted a got flags v = count (λ word. tallied a got word && eqb (getD flags word 0) v) 384
+counted a got flags v = count (λ place. tallied a got place && eqb (getD flags place 0) v) 384
 
 -- the tallies that a frame's flag bytes bring; a byte above 3 counts nowhere
 abbrev pub talliesOf : Account → ℕ → List ℕ → Tallies
@@ -48,7 +48,8 @@ talliesOf a got flags = record { clean = counted a got flags 0; one = counted a 
 abbrev pub total : Tallies → ℕ
 total t = t .clean + t .one + t .two + t .flagged
 
--- the tallies are of the right total, 384 times the accepted frames less 448. As an addition: with a subtraction that stops at 0, one accepted frame would pass
+-- the tallies are of the right total, 384 times the accepted frames less 448. As an addition: by a subtraction that stops at 0, no words would be the right
+-- total of one accepted frame
 abbrev pub rightTotal : Account → Bool
 rightTotal a = eqb (total (a .words) + 448) (384 * a .accepted)
 

@@ -1,4 +1,5 @@
--- Fill is no measurement (02, request 02): what a frame adds, by its number, and that an order for one frame is never measured; `proofs/Fill` proves each.
+-- Fill is no measurement (02, request 02): what a frame adds, by its number, and that an order for one frame is never measured; `proofs/Kept` proves
+-- `AddsDue`, `proofs/Fill` the others.
 -- Assumes nothing.
 use mathlib.Core.Path.{_≡_}
 use mathlib.Core.Logic.{_≢_, _↔_}

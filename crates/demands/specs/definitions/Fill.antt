@@ -23,7 +23,7 @@ CarriesFill w = (q : ℕ) × (q < 110) × (isFill (110 * w + q) ≡ true)
 abbrev pub freeOfFill : ℕ → ℕ → Bool
 freeOfFill k i = leb 14 (12 * k + i / 32)
 
--- word w of lane p, counted over the stream, carries as bit q this value, by the lanes, in every stream of so many words that is sent from a fresh store
+-- bit q of word w of lane p, counted over the stream, has this value, by the lanes, in every stream sent from a fresh store that reaches word w
 abbrev pub AlwaysCarries : Places → (p w q : ℕ) → ((ℕ → List ℕ) → ℕ) → Type 0
 AlwaysCarries ex p w q value =
     (n : ℕ) (lanes room : ℕ → List ℕ) (numbers : ℕ → ℕ) (frames stores : ℕ → List ℕ) → Sent ex n lanes room numbers frames stores → w < 12 * n

@@ -80,14 +80,14 @@ OneNotMeasured =
     → Line "verdict NOT MEASURED" report
 
 -- For the examiner: PASS means that every ordered frame's 384 words were counted, but for the run's 448 that carry fill. The report is that of as many frames
--- accepted as asked for, none missing, and the words with each flag over all of them
+-- accepted as asked for, none missing, and, of their words free of fill, those with each flag
 abbrev pub AllCounted : Type 0
 AllCounted =
     (s report : List ℕ) → AllBytes s → Examination s report → Line "verdict PASS" report
     → (m : Measured s) × (examined s ≡ measuredRun m) × (report ≡ text (measuredRun m)) × (total (measuredRun m .account .words) + 448 ≡ 384 * m .asked)
 
 -- and whatever the verdict, the four tallies that the report shows and 448 total 384 times the accepted frames where none is missing and at least two are
--- accepted; one alone shows none; and whatever is missing, there lack the 384 words of the first number, the 64 of the second, both or neither
+-- accepted; one alone shows none; and whatever is missing, it is that product less 0, 64, 384 or 448
 abbrev pub AlwaysCounted : Type 0
 AlwaysCounted = (s : List ℕ) → Totals (examined s .account)
 
