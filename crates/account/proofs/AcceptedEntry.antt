@@ -53,9 +53,9 @@ module _ (a : Account) (got : ℕ) where
   module _ (k d m : ℕ) (o r : Bool) (n : ℕ) (t : Tallies) (e : Entry)
       (ahead-is : d ≡ ahead got (a .expected)) (over-is : o ≡ over (grown a (a .expected) k m t))
       (number-is : n ≡ cond (late d) 10 (cond o 11 (cond r 0 12))) (is : e ≡ answer n (grown a got k m t) a) where
-    pub frame-by-tests : k ≡ 1 → m ≡ d → r ≡ eqb (total t) (due a got) → e ≡ frameEntered a got t
+    pub frame-by-tests : (w : ℕ) → k ≡ 1 → m ≡ d → r ≡ eqb (total t) w → w ≡ due a got → e ≡ frameEntered a got t
     unfolding frameEntered over
-    frame-by-tests k-is m-is r-is = rw (is, number-is, over-is, r-is, m-is, k-is, ahead-is) refl
+    frame-by-tests w k-is m-is r-is w-is = rw (is, number-is, over-is, r-is, w-is, m-is, k-is, ahead-is) refl
 
     pub loss-by-tests : k ≡ 0 → m ≡ d + 1 → r ≡ true → t ≡ noWords → e ≡ lossEntered a got
     unfolding lossEntered over

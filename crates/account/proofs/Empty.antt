@@ -1,12 +1,15 @@
--- What the contracts of `enter`, `lose` and `verdict_of` forbid, at named inputs: a refused entry that moves the expected number, one that is taken and changes
--- nothing, lateness that begins elsewhere than half the way round, and a right total by a subtraction that stops at 0.
+-- What the contracts of `enter`, `lose`, `verdict_of` and `tallies_of` forbid, at named inputs: a refused entry that moves the expected number, one that is
+-- taken and changes nothing, lateness that begins elsewhere than half the way round, a right total by a subtraction that stops at 0, and no words of any frame.
 -- Assumes nothing.
 use mathlib.Core.Path.{_≡_, ap}
 use mathlib.Core.Bool.{false}
 use mathlib.Core.Logic.{_≢_}
 use Prim.Native.Nat.{ℕ, _+_, _^_}
 use native.Mathlib.Omega.{arith}
-use Rattle.account.specs.definitions.Account.{noWords, opened, ahead, over, frameEntered, lossEntered, measured, verdict, verdictNumber}
+use lib.ListN.{replicate}
+use Rattle.bits.specs.definitions.Bits.{count}
+use Rattle.account.specs.definitions.Account.{ahead, counted, talliesOf, noWords, opened, over, frameEntered, lossEntered}
+use Rattle.account.specs.definitions.Account.{measured, verdict, verdictNumber}
 use Rattle.account.specs.declared.Entry.{Entry}
 use Rattle.account.specs.declared.Tallies.{Tallies}
 use Rattle.account.specs.declared.Verdict.the-variants.{Pass}
@@ -44,3 +47,8 @@ before-half-not-late e = (λ f z. eleven (ap (λ (x : Entry). x .refusal) f) z, 
 pub one-accepted-passes : Pass ≡ verdict 1 0 (record { expected = 6; start = 5; accepted = 1; missing = 0; words = noWords }) false → ⊥
 unfolding verdict measured verdictNumber
 one-accepted-passes e = let f : _≡_ {A = ℕ} 1 0 = ap verdictNumber e in omega arith
+
+-- a frame two after the start number, all its words clean, from which none is left out: to tally nothing is no way to tally no fill
+pub nothing-tallied : noWords ≡ talliesOf (opened 5) 7 (replicate 384 0) → ⊥
+unfolding counted count ahead
+nothing-tallied e = let f : _≡_ {A = ℕ} 0 384 = ap (λ (t : Tallies). t .clean) e in omega arith
