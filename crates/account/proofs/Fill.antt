@@ -2,7 +2,7 @@
 -- Assumes nothing.
 use mathlib.Core.Path.{_≡_, refl, sym, _∙_, subst}
 use mathlib.Core.Logic.{_≢_}
-use mathlib.Core.Bool.{Bool, true, false, cond, not, _&&_}
+use mathlib.Core.Bool.{Bool, true, false, cond, _&&_}
 use mathlib.Core.List.{List}
 use Prim.Native.Nat.{ℕ, zero, suc, _+_, _^_, _%_, _≤_, _<_}
 use native.Mathlib.Omega.{arith}
@@ -10,7 +10,7 @@ use lib.Dec.{eqb, leb}
 use lib.ListN.{getD}
 use borrow.Author.Tests.{eq-eqb, ne-eqb, le-leb, lt-leb, leb-true}
 use Rattle.bits.specs.definitions.Bits.{count}
-use Rattle.bits.proofs.Count.{count-cong, count-le, count-pos}
+use Rattle.bits.proofs.Count.{count-cong, count-le, count-all}
 use Rattle.account.specs.definitions.Account.{ahead, byNumber, due, tallied, counted, talliesOf, total, verdict}
 use Rattle.account.specs.statements.Fill.{DueByNumber, Brings, FewerThanTwo}
 use Rattle.account.specs.declared.Account.{Account}
@@ -103,24 +103,6 @@ four-in-all test flags (suc n) = omega (arith, of-this (test n), four-in-all tes
         + cond (b && eqb (getD flags n 0) 3) 1 0 ≡ cond (b && leb (getD flags n 0) 3) 1 0
     of-this true = one-of-four (getD flags n 0)
     of-this false = refl
-
--- a test that all of those pass that pass another
-split : (p q : ℕ → Bool) (n : ℕ) → count (λ i. p i && q i) n + count (λ i. p i && not (q i)) n ≡ count p n
-unfolding count
-split p q zero = refl
-split p q (suc n) = omega (arith, of-this (p n) (q n), split p q n)
-  where
-    of-this : (x y : Bool) → cond (x && y) 1 0 + cond (x && not y) 1 0 ≡ cond x 1 0
-    of-this true true = refl
-    of-this true false = refl
-    of-this false y = refl
-
-count-all : (p q : ℕ → Bool) (n : ℕ) → count (λ i. p i && q i) n ≡ count p n → (i : ℕ) → i < n → p i ≡ true → q i ≡ true
-count-all p q n e i h t = go (q i) refl
-  where
-    go : (b : Bool) → q i ≡ b → q i ≡ true
-    go true f = f
-    go false f = absurd (let s = split p q n in let c = count-pos (λ j. p j && not (q j)) n i h (rw (t, f) refl) in omega arith)
 
 pub brings : Brings
 unfolding counted

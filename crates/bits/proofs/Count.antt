@@ -88,6 +88,25 @@ module _ (k : ℕ) (p : ℕ → Bool) where
 pub count-pos : (p : ℕ → Bool) (n i : ℕ) → i < n → p i ≡ true → 0 < count p n
 count-pos p n i h t = omega (arith, count-without i p n h t)
 
+-- those that pass p, by whether they pass q
+count-split : (p q : ℕ → Bool) (n : ℕ) → count (λ i. p i && q i) n + count (λ i. p i && not (q i)) n ≡ count p n
+unfolding count
+count-split p q zero = refl
+count-split p q (suc n) = omega (arith, of-this (p n) (q n), count-split p q n)
+  where
+    of-this : (x y : Bool) → cond (x && y) 1 0 + cond (x && not y) 1 0 ≡ cond x 1 0
+    of-this true true = refl
+    of-this true false = refl
+    of-this false y = refl
+
+-- where as many pass both as pass p, all that pass p pass q
+pub count-all : (p q : ℕ → Bool) (n : ℕ) → count (λ i. p i && q i) n ≡ count p n → (i : ℕ) → i < n → p i ≡ true → q i ≡ true
+count-all p q n e i h t = go (q i) refl
+  where
+    go : (b : Bool) → q i ≡ b → q i ≡ true
+    go true f = f
+    go false f = absurd (omega (arith, count-split p q n, count-pos (λ j. p j && not (q j)) n i h (rw (t, f) refl)))
+
 -- f takes the numbers below n that pass p to numbers below m that pass q, no two to one
 pub count-inject : (p : ℕ → Bool) (n : ℕ) (q : ℕ → Bool) (m : ℕ) (f : ℕ → ℕ)
     → ((i : ℕ) → i < n → p i ≡ true → (f i < m) × (q (f i) ≡ true))

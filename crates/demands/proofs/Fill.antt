@@ -26,35 +26,36 @@ use Rattle.demands.proofs.Trial.{undamaged-exist}
 
 -- ---- a bit of an interleaved lane
 
-module _ (ex : Places) (x : ℕ → ℕ → ℕ) (p i : ℕ) where
-  -- so many bits later it is sent
-  abbrev delay : ℕ
-  delay = 40 * (18 * (i / 40 % 3))
+-- by so many bits it is delayed
+abbrev delay : ℕ → ℕ
+delay i = 40 * (18 * (i / 40 % 3))
 
+module _ (ex : Places) (x : ℕ → ℕ → ℕ) (p i : ℕ) where
   from-before : isFill i ≡ true → interleaved ex x p i ≡ 0
   unfolding interleaved
-  from-before e = let h = ltb-true (i / 40) (18 * (i / 40 % 3)) e in delayed-early delay (permuted ex x p) i (omega arith)
+  from-before e = let h = ltb-true (i / 40) (18 * (i / 40 % 3)) e in delayed-early (delay i) (permuted ex x p) i (omega arith)
 
-  from-stream : isFill i ≡ false → interleaved ex x p i ≡ x (across ex p ((i - delay) / 10)) (i - delay)
+  from-stream : isFill i ≡ false → interleaved ex x p i ≡ x (across ex p ((i - delay i) / 10)) (i - delay i)
   unfolding interleaved
   from-stream e =
       let h = ltb-false (i / 40) (18 * (i / 40 % 3)) e in
-      delayed-at delay (permuted ex x p) i (i - delay) (omega arith) ∙ permuted-across ex x p (i - delay)
+      delayed-at (delay i) (permuted ex x p) i (i - delay i) (omega arith) ∙ permuted-across ex x p (i - delay i)
 
 pub fill-bits : FillBits
-fill-bits ex p w q hp hq = (
-  λ e n lanes room numbers frames stores S h.
-      block-rule ex n lanes room numbers frames stores S .2 p w q hp h hq ∙ from-before ex (streamBit lanes) p (110 * w + q) e,
-  λ e.
-      let d = delay ex (λ _ _. 0) p (110 * w + q) in (
-        across ex p ((110 * w + q - d) / 10),
-        110 * w + q - d,
-        across-lt ex p ((110 * w + q - d) / 10) hp,
+fill-bits ex p w q hp hq =
+    let i = 110 * w + q in
+    let j = i - delay i in (
+      λ e n lanes room numbers frames stores S h.
+          block-rule ex n lanes room numbers frames stores S .2 p w q hp h hq ∙ from-before ex (streamBit lanes) p i e,
+      λ e. (
+        across ex p (j / 10),
+        j,
+        across-lt ex p (j / 10) hp,
         omega arith,
         λ n lanes room numbers frames stores S h.
-            block-rule ex n lanes room numbers frames stores S .2 p w q hp h hq ∙ from-stream ex (streamBit lanes) p (110 * w + q) e,
+            block-rule ex n lanes room numbers frames stores S .2 p w q hp h hq ∙ from-stream ex (streamBit lanes) p i e,
       ),
-)
+    )
 
 -- ---- the words that carry fill
 

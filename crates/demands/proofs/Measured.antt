@@ -90,8 +90,8 @@ module _ (start : ℕ) (frames : ℕ → List ℕ) where
       λ i. record { expected = e i; start = start; accepted = n i; missing = 0; words = allTallies frames (suc k) }
 
   module _ (hs : start < 2 ^ 32) where
-    in-turn : (k : ℕ) → k < frameLimit → ahead (frameNumber start k) start ≡ k
-    in-turn k h = turn-is start k hs (omega arith)
+    its-turn : (k : ℕ) → k < frameLimit → ahead (frameNumber start k) start ≡ k
+    its-turn k h = turn-is start k hs (omega arith)
 
     -- the next is entered, since what the tallies total keeps each of them within its limit
     entered-next : (k : ℕ) → k < frameLimit → InTurn (allAccepted k)
@@ -99,12 +99,12 @@ module _ (start : ℕ) (frames : ℕ → List ℕ) where
     entered-next k h I =
         ap (λ (a : Account). record { refusal = 0; account = a }) (next-account k)
         ∙ frame-done (allAccepted k) (frameNumber start k) (frameTallies k (frames k)) 0 (not-ahead k) refl limits
-        (words-due (allAccepted k) (frameNumber start k) k (in-turn k h) (frames k))
+        (words-due (allAccepted k) (frameNumber start k) k (its-turn k h) (frames k))
       where
         limits : over (grown (allAccepted k) (frameNumber start k) 1 0 (frameTallies k (frames k))) ≡ false
         limits =
             let (x, s, c) = I .totals .lacking in
-            let d = words-due (allAccepted k) (frameNumber start k) k (in-turn k h) (frames k) in
+            let d = words-due (allAccepted k) (frameNumber start k) k (its-turn k h) (frames k) in
             let m = due-most (allAccepted k) (frameNumber start k) in
             within (grown (allAccepted k) (frameNumber start k) 1 0 (frameTallies k (frames k))) (omega arith) (omega arith) (omega arith) (omega arith)
             (omega arith) (omega arith)
@@ -129,7 +129,7 @@ module _ (start asked allowed : ℕ) (frames : ℕ → List ℕ) where
   framed-next hs k h l =
       rw (
         l,
-        tallies-are (allAccepted start frames k) (frameNumber start k) k (in-turn start frames hs k h) (frames k),
+        tallies-are (allAccepted start frames k) (frameNumber start k) k (its-turn start frames hs k h) (frames k),
         sym (entered-next start frames hs k h (all-in-turn start frames hs k (omega arith))),
       )
       refl

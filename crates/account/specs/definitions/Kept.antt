@@ -9,7 +9,7 @@ use Rattle.account.specs.declared.Account.{Account}
 use Rattle.account.specs.declared.Tallies.{Tallies}
 
 -- what the four tallies total: where none is missing and at least two frames are accepted, 384 times the accepted frames less 448; one alone brings no words;
--- and whatever is missing, that product less 384 if the frame at the start number was accepted, less 64 if the next was (02, request 02)
+-- and whatever is missing, it is that product less 0, 64, 384 or 448; which, the entries tell: `AddsDue` (02, request 02)
 pub record Totals (a : Account) : Type 0 where
   pub exactly : a .missing ≡ 0 → 2 ≤ a .accepted → total (a .words) + 448 ≡ 384 * a .accepted
   pub alone : a .missing ≡ 0 → a .accepted ≤ 1 → total (a .words) ≡ 0
