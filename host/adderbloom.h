@@ -1,5 +1,5 @@
-/* The sending and receiving logic of the 800LR coherent line (OIF-800LR-01.0), the reader of captures, the account of a run and its verdict, and test traffic
- * with its checker, for a host program in C. Link with libadderbloom.a: x86-64, System V calling convention.
+/* The sending and receiving logic of the 800LR coherent line (OIF-800LR-01.0), the reader of captures, the account of a run and its verdict, test traffic with
+ * its checker, and the search for a frame's start, for a host program in C. Link with libadderbloom.a: x86-64, System V calling convention.
  *
  * Every call ends, and any bytes, lengths and stored numbers are lawful. Nothing allocates or keeps state of its own: what is kept between calls is the
  * caller's, and calls that share no memory may run at once. A call needs up to 70 kB of stack, and calls memcpy and memset.
@@ -16,9 +16,9 @@
 /* The version of this header and of the archive that comes with it. Any change of what a host was told raises the first number, an addition the second,
  * everything else the third. */
 #define LR800_VERSION_MAJOR 3
-#define LR800_VERSION_MINOR 0
+#define LR800_VERSION_MINOR 1
 #define LR800_VERSION_PATCH 0
-#define LR800_VERSION "3.0.0"
+#define LR800_VERSION "3.1.0"
 
 #ifdef __cplusplus
 extern "C" {
@@ -31,9 +31,10 @@ extern "C" {
  * something that has no number. Whether a run goes on is told by its phase. */
 enum {
   LR800_DONE = 0, /* no number applies; whether a run goes on is told by its phase */
-  /* by lr800_send, lr800_receive, 4 by lr800_account_enter, 3 by lr800_traffic_frame and lr800_traffic_next, and 1 and 3 by lr800_traffic_check */
+  /* by lr800_send, lr800_receive, 4 by lr800_account_enter, 3 by lr800_traffic_frame and lr800_traffic_next, 1 and 3 by lr800_traffic_check, and 2 by
+   * lr800_hunt_feed */
   LR800_WRONG_INPUT_LENGTH = 1,   /* input is not LR800_LANES bytes long (sending, checking test traffic), LR800_FRAME (receiving) */
-  LR800_WRONG_STORE_LENGTH = 2,   /* the store is not LR800_STORE bytes long */
+  LR800_WRONG_STORE_LENGTH = 2,   /* the store is not LR800_STORE bytes long; what a search keeps (lr800_hunt_feed) is not LR800_HUNT_KEPT symbols */
   LR800_WRONG_OUTPUT_LENGTH = 3,  /* output is not LR800_FRAME bytes long (sending), LR800_LANES (receiving, test traffic), or not LR800_COUNTS counts */
   LR800_WRONG_FLAGS_LENGTH = 4,   /* there are not LR800_FLAGS flag bytes */
   LR800_NO_LOCK = 5,              /* no lock: 25 or more of the 96 pilot bytes differ */
@@ -46,8 +47,12 @@ enum {
   LR800_LATE = 10,                /* the frame's number is late: 2^31 or more after the expected one, round 2^32 */
   LR800_ABOVE_LIMIT = 11,         /* after the entry, accepted or missing frames would stand above 1,000,000, or some tally above 384,000,000 */
   LR800_WRONG_TALLIES = 12,       /* fewer words tallied than the frame's number asks for: some of its tallied flag bytes are above 3 */
+  /* by lr800_hunt and lr800_hunt_answer, in what they return */
+  LR800_SHORT_RUN = 13,           /* the run of symbols, all its pieces together, is shorter than a frame: fewer than LR800_FRAME */
   /* by lr800_run_step */
-  LR800_MORE_THAN_ONE = 22        /* more bytes than one record: more stand behind a whole record of lawful length, version and kind */
+  LR800_MORE_THAN_ONE = 22,       /* more bytes than one record: more stand behind a whole record of lawful length, version and kind */
+  /* by lr800_hunt_feed */
+  LR800_TOO_MANY_SYMBOLS = 23     /* no start was found yet, and the symbols taken in and the piece's are 2^64 or more together */
 };
 
 /* What a refusal's number says, as one line of text with no 0A. Any number is lawful. */
@@ -66,7 +71,9 @@ static inline const char *lr800_refusal_text(uint32_t number) {
   case LR800_LATE: return "the frame's number is late";
   case LR800_ABOVE_LIMIT: return "accepted or missing frames or a tally would stand above the limit";
   case LR800_WRONG_TALLIES: return "the frame's tallies are not those due to its number";
+  case LR800_SHORT_RUN: return "the run of symbols is shorter than a frame";
   case LR800_MORE_THAN_ONE: return "more bytes than one record";
+  case LR800_TOO_MANY_SYMBOLS: return "the symbols taken in and the piece's are 2^64 or more together";
   default: return "no refusal has this number";
   }
 }
@@ -255,11 +262,67 @@ uint32_t lr800_traffic_next(uint32_t *state, uint8_t *output, size_t output_leng
  * lanes may be wrong, as lr800_receive says: their counts then tell of the loss, and not of flips alone. */
 uint32_t lr800_traffic_check(uint32_t frame, const uint8_t *lanes, size_t lanes_length, uint32_t *wrong, size_t wrong_length);
 
+/* ---- The hunt: where a frame starts in a recording that does not mark it ---- */
+
+/* A run of symbols is any number of them, a byte each; offset o is the place with o of them before it. A start is an offset from which on all LR800_FRAME
+ * symbols of a frame are there and lock: lr800_receive would not refuse them by 5, LR800_NO_LOCK.
+ * What a search promises is the smallest start and no more. Payload can resemble pilots, so it may be one at which no frame was sent. But where a frame stands
+ * whole in the run and locks, damaged or not, the answer is its offset or a smaller one. */
+
+/* What a search says. */
+typedef struct lr800_found {
+  uint32_t refusal; /* 13, LR800_SHORT_RUN, exactly where there are fewer than LR800_FRAME symbols; found and offset are then 0. Else 0 */
+  uint32_t found;   /* 1 if a start was found; else 0 */
+  uint64_t offset;  /* the smallest start; 0 where none was found, which is also an offset: look at `found` first */
+} lr800_found;
+
+/* The search over a whole run in memory. Over just LR800_FRAME symbols, `found` says whether they lock. */
+lr800_found lr800_hunt(const uint8_t *run, size_t run_length);
+
+/* The search over a run that comes in pieces, cut anywhere: open, feed each piece in its turn, and ask at any time. The answer is that of lr800_hunt over all
+ * pieces so far, one behind the other, but for those that were refused: what is fed next counts as standing right behind what was fed before. So after 2 feed
+ * the piece again; after 23 feed a shorter part of it, or open the search anew and feed the last 6,143 symbols again, from which on offsets then count. */
+#define LR800_HUNT_KEPT 6144 /* symbols that a search keeps between pieces, a byte each: as many as a frame has */
+
+/* Where symbol n of a run, counted from 0 over all pieces, is kept: in 64 columns of 96, those that follow each other 64 apart, as a frame's pilots do, side by
+ * side in one and round. */
+static inline size_t lr800_hunt_place(uint64_t n) {
+  return (size_t)(96 * (n % 64) + n / 64 % 96);
+}
+
+/* The numbers that a search keeps. Any numbers are lawful. All zero is a search before its first piece. */
+typedef struct lr800_hunt_state {
+  uint64_t taken; /* how many symbols were taken in: all that were fed, until a start is found; then offset + LR800_FRAME, up to the end of the frame there */
+  uint64_t found; /* 0 until a start is found; any other number says that one was, and 1 is what lr800_hunt_feed sets */
+} lr800_hunt_state;
+
+/* A search before its first piece. What the kept symbols hold does not matter then. */
+void lr800_hunt_open(lr800_hunt_state *state);
+
+/* The next piece, of any length; an empty one changes nothing. state and kept are the search's own: lend them to every call of one search, and to no other.
+ * Symbol by symbol, until a start is found: symbol n is written at kept[lr800_hunt_place(n)], and state->taken becomes n + 1; then, once that is LR800_FRAME or
+ * more, a start is found if the last LR800_FRAME symbols, kept[lr800_hunt_place(state->taken - LR800_FRAME + j)], j from 0 on, lock.
+ * Once a start is found nothing changes any more, whatever is fed. kept then holds the frame that starts there: its symbol j is
+ * kept[lr800_hunt_place(offset + j)]. Of the piece in which it was found as many symbols were taken in as state->taken has grown by; a host that goes on
+ * behind that frame goes on with the rest of it. One that takes the start for a false one opens the search again and feeds from offset + 1 on, having copied
+ * the symbols that it has only in kept to memory of its own, in their order; offsets then count from there.
+ * Numbers that no search left are taken as they are: where found is 0, as if so many symbols had been taken in, of which the last are kept, and no start found
+ * among them; where found is not 0, as if one was.
+ * Answers 0; 2, there are not LR800_HUNT_KEPT kept symbols; or 23, found is 0, and state->taken and piece_length add up to 2^64 or more. A refused piece is not
+ * taken in, not even a part of it, and neither state nor kept changes. */
+uint32_t lr800_hunt_feed(lr800_hunt_state *state, uint8_t *kept, size_t kept_length, const uint8_t *piece, size_t piece_length);
+
+/* What the search says of all that was fed so far: 13 where state.taken is below LR800_FRAME, which in the midst of a search only says that more is wanted;
+ * else, where state.found is not 0, the offset state.taken - LR800_FRAME; else that nothing was found. */
+lr800_found lr800_hunt_answer(lr800_hunt_state state);
+
 /* the structs are laid out as in the archive, or this does not compile */
 typedef char lr800_account_has_56_bytes[sizeof(lr800_account) == 56 ? 1 : -1];
 typedef char lr800_account_has_start_at_4[offsetof(lr800_account, start) == 4 && offsetof(lr800_account, accepted) == 8 ? 1 : -1];
 typedef char lr800_record_has_40_bytes[sizeof(lr800_record) == 40 ? 1 : -1];
 typedef char lr800_run_has_72_bytes[sizeof(lr800_run) == 72 ? 1 : -1];
+typedef char lr800_found_has_16_bytes[sizeof(lr800_found) == 16 && offsetof(lr800_found, offset) == 8 ? 1 : -1];
+typedef char lr800_hunt_state_has_16_bytes[sizeof(lr800_hunt_state) == 16 && offsetof(lr800_hunt_state, found) == 8 ? 1 : -1];
 
 #ifdef __cplusplus
 }

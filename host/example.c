@@ -1,6 +1,7 @@
 /* A rig in small, to copy from. A stream of frames is sent, damaged on its way, received and entered in an account; then the frames are written down as a
- * capture, which is examined in one call and stepped over record by record; and at last test traffic is sent, and what comes back of it is checked. Every
- * answer is looked at: the program ends with 1 at the first that is not what it must be.
+ * capture, which is examined in one call and stepped over record by record; then test traffic is sent, and what comes back of it is checked; and at last the
+ * start of a frame is looked for in a recording that does not mark it (cut.c is a whole program for such recordings). Every answer is looked at: the program
+ * ends with 1 at the first that is not what it must be.
  *   cc example.c -ladderbloom -o example && ./example */
 #include "adderbloom.h"
 #include <inttypes.h>
@@ -17,12 +18,15 @@ enum {
     PILOTS_APART = 64, WRONG_PILOTS = 25,    /* a pilot is the first symbol of each 64; so many wrong ones are no lock */
     INFORMATION = 110,                       /* the first bits of a word; those behind them are parity, which no lane has */
     HIT = 5,                                 /* the frame of test traffic that has words which cannot be mended */
-    TRAFFIC_BITS = 42240                     /* of a frame of test traffic */
+    TRAFFIC_BITS = 42240,                    /* of a frame of test traffic */
+    BEFORE = 1000, RECORDED = 3,             /* the recording: symbols of nothing, frames behind them */
+    PIECE = 700                              /* symbols by which it is searched in pieces */
 };
 static const uint32_t START = 4294967280u;   /* the first frame's number; the numbers run round at 2^32 within this stream */
 
 static uint8_t sent[FRAMES][LR800_FRAME];
 static uint8_t capture[LR800_ORDER_BYTES + FRAMES * LR800_FRAME_BYTES];
+static uint8_t recording[BEFORE + RECORDED * LR800_FRAME];
 
 static void must(int holds, const char *what) {
     if (holds) return;
@@ -312,6 +316,43 @@ static void check_traffic(const char *what, int mendable, int hit, int lost) {
     printf("\n%s\nwrong bits %" PRIu32 "\nframes with any %d\nlanes with any %d\n", what, in_all, frames_with, lanes_with);
 }
 
+/* What an instrument writes down that marks no frame: nothing, which is zeros here, until the first frame comes. */
+static void record_line(void) {
+    memset(recording, 0, BEFORE);
+    for (int f = 0; f < RECORDED; f++) memcpy(recording + BEFORE + f * LR800_FRAME, sent[f], LR800_FRAME);
+}
+
+/* Where a frame starts in so many symbols of the recording, in one call and in pieces. What was found is told by `found`: 0 is an offset, too. */
+static void find_start(const char *what, size_t length, uint32_t refused_by, uint32_t found) {
+    static uint8_t kept[LR800_HUNT_KEPT]; /* the search's own, like its state */
+    lr800_found said = lr800_hunt(recording, length), in_pieces;
+    lr800_hunt_state state;
+    size_t frames = 0;
+    lr800_hunt_open(&state);
+    for (size_t place = 0; place < length && !state.found; place += PIECE) {
+        size_t count = length - place;
+        if (count > PIECE) count = PIECE;
+        must(lr800_hunt_feed(&state, kept, sizeof kept, recording + place, count) == LR800_DONE, "a piece was refused");
+    }
+    in_pieces = lr800_hunt_answer(state);
+    must(said.refusal == refused_by && said.found == found, "a start was found where there is none, or was not, or the run was refused, or was not");
+    must(in_pieces.refusal == said.refusal && in_pieces.found == said.found && in_pieces.offset == said.offset, "in pieces the search says something else");
+    printf("\n%s\n", what);
+    if (said.refusal != LR800_DONE) {
+        printf("refused by %" PRIu32 ": %s\n", said.refusal, lr800_refusal_text(said.refusal));
+    } else if (!said.found) {
+        printf("no frame starts there\n");
+    } else {
+        /* who has only the pieces finds the first frame in what was kept, and the next one from symbol state.taken on, within the piece that was fed last */
+        for (size_t j = 0; j < LR800_FRAME; j++) must(kept[lr800_hunt_place(said.offset + j)] == sent[0][j], "the frame kept is not the first that was sent");
+        must(state.taken == said.offset + LR800_FRAME, "other symbols were taken in than those up to the frame's end");
+        /* each frame stands right behind the one before, as long as no symbol was lost or added: a frame has no mark of its own but its pilots */
+        for (size_t at = (size_t)said.offset; length - at >= LR800_FRAME; at += LR800_FRAME)
+            must(memcmp(recording + at, sent[frames++], LR800_FRAME) == 0, "a frame cut from the recording is not the one that was sent");
+        printf("a frame starts at symbol %" PRIu64 "\nframes cut from there on %d\n", said.offset, (int)frames);
+    }
+}
+
 static input whole(size_t length) {
     input from = {0, 0, 0};
     from.length = length;
@@ -337,6 +378,10 @@ int main(void) {
     check_traffic("test traffic, damaged and mended:", 1, FRAMES, FRAMES);
     check_traffic("test traffic, two words of a frame not mended:", 1, HIT, FRAMES);
     check_traffic("test traffic, two words not mended and another frame without lock:", 1, HIT, LOST);
+    record_line();
+    find_start("a recording that marks no frame, of nothing and then three frames:", sizeof recording, LR800_DONE, 1);
+    find_start("its beginning, up to the last symbol but one of the first frame:", BEFORE + LR800_FRAME - 1, LR800_DONE, 0);
+    find_start("its beginning, shorter than a frame:", LR800_FRAME - 1, LR800_SHORT_RUN, 0);
     must(fflush(stdout) == 0, "not all of it was written");
     return 0;
 }

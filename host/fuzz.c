@@ -1,7 +1,8 @@
 /* A target for libFuzzer: what must hold of any input, asked of every function of the archive. Built and run by `host/stress fuzz`.
  *
- * An input is CONTROL bytes, from which lengths, places and stored numbers are taken, and then a capture, which also fills the buffers. The archive has no
- * coverage counters of its own: what it answers is told to libFuzzer by `mark`, and the mutator at the end knows what a record is.
+ * An input is CONTROL bytes, from which lengths, places and stored numbers are taken, and then a capture, which also fills the buffers and is searched as a run
+ * of symbols. The archive has no coverage counters of its own: what it answers is told to libFuzzer by `mark`, and the mutator at the end knows what a record
+ * is.
  *
  * Buffers stand between two pages that cannot be touched, at the one or at the other, so that a read beyond them ends the program, too. With -DEXACT every
  * buffer is a block of its own and of its very length, for valgrind. With -DALONE the program runs over the files named, without libFuzzer. */
@@ -13,12 +14,12 @@
 #include <string.h>
 #include <sys/mman.h>
 
-enum { NUMBERS = 16, CONTROL = 8 * NUMBERS, PAGE = 4096, GUARD = 0xA5, PILOTS = 96, NO_LOCK = 25, LONGEST = 60000 };
+enum { NUMBERS = 19, CONTROL = 8 * NUMBERS, PAGE = 4096, GUARD = 0xA5, PILOTS = 96, NO_LOCK = 25, LONGEST = 60000 };
 enum { FILL = 448 }; /* words that still carry the zeros of the sender's store: all of the frame at the start number, and 64 of the next */
 
 /* the control numbers: the first byte by byte, the others whole; the account's seven stand in its own order, the first its two numbers of a frame: the start
  * number in the upper half and the expected one in the lower */
-enum { CHOICES, PLACE, ACCOUNT, FIGURES = ACCOUNT + 7, GOT, ROOM, STOPPED, BITS, TRAFFIC };
+enum { CHOICES, PLACE, ACCOUNT, FIGURES = ACCOUNT + 7, GOT, ROOM, STOPPED, BITS, TRAFFIC, FED, FOUND, PIECES };
 enum { SIDE, INPUT_LENGTH, STORE_LENGTH, OUTPUT_LENGTH, FLAGS_LENGTH, STORE_FROM, RAW_FLAGS, COUNTS_LENGTH };
 
 #define MUST(holds) ((holds) ? (void)0 : broken(#holds, __LINE__))
@@ -30,16 +31,16 @@ static void broken(const char *what, int line) {
 
 /* ---- What libFuzzer is told ---- */
 
+enum { READ_AS, RECEIVED, SENT, ENTERED, LOST, STEPPED, JUDGED, STEPS, PILOTS_WRONG, WORDS_ONE, WORDS_TWO, WORDS_FLAGGED, REPORTED, EXAMINED, MADE,
+       CHECKED, HUNTED, TAKEN_IN, MARKS };
+
 #ifndef ALONE
 __attribute__((section("__libfuzzer_extra_counters")))
 #endif
-static uint8_t marks[1024];
-
-enum { READ_AS, RECEIVED, SENT, ENTERED, LOST, STEPPED, JUDGED, STEPS, PILOTS_WRONG, WORDS_ONE, WORDS_TWO, WORDS_FLAGGED, REPORTED, EXAMINED, MADE,
-       CHECKED };
+static uint8_t marks[64 * MARKS];
 
 static void mark(unsigned what, uint64_t value) {
-    marks[(64 * what + (value < 63 ? value : 63)) % sizeof marks] = 1;
+    marks[64 * what + (value < 63 ? value : 63)] = 1;
 }
 
 static uint64_t size_of_number(uint64_t n) {
@@ -652,6 +653,130 @@ static void check_traffic(void) {
     for (uint32_t first = 0; first < 3; first++) check_counts(first);
 }
 
+/* ---- The hunt ---- */
+
+/* whether a frame's symbols lock */
+static int locks(const uint8_t *symbols) {
+    uint32_t wrong = 0;
+    for (size_t i = 0; i < PILOTS && wrong < NO_LOCK; i++) wrong += symbols[64 * i] != pilots[i];
+    return wrong < NO_LOCK;
+}
+
+/* whether the kept symbols lock, the oldest first, where so many were taken in: at least a frame's. The oldest is counted from the frame's start, since
+ * counted on from the youngest it may be beyond 2^64, which is no multiple of LR800_HUNT_KEPT */
+static int kept_lock(const uint8_t *kept, uint64_t taken) {
+    uint32_t wrong = 0;
+    for (uint64_t i = 0; i < PILOTS && wrong < NO_LOCK; i++) wrong += kept[lr800_hunt_place(taken - LR800_FRAME + 64 * i)] != pilots[i];
+    return wrong < NO_LOCK;
+}
+
+static int same_found(lr800_found a, lr800_found b) {
+    return a.refusal == b.refusal && a.found == b.found && a.offset == b.offset;
+}
+
+static int same_search(const lr800_hunt_state *a, const lr800_hunt_state *b) {
+    return a->taken == b->taken && a->found == b->found;
+}
+
+/* what a search must say of so many symbols of the capture, if a start is there, or none */
+static lr800_found due(size_t length, int is_there, size_t start) {
+    lr800_found said = {length < LR800_FRAME ? LR800_SHORT_RUN : 0, is_there && length >= LR800_FRAME && length - LR800_FRAME >= start, 0};
+    if (said.found) said.offset = start;
+    return said;
+}
+
+/* the answer to any state */
+static lr800_found ask(const lr800_hunt_state *state) {
+    lr800_found said = lr800_hunt_answer(*state), expected = {state->taken < LR800_FRAME ? LR800_SHORT_RUN : 0, state->taken >= LR800_FRAME && state->found, 0};
+    if (expected.found) expected.offset = state->taken - LR800_FRAME;
+    MUST(same_found(said, expected));
+    return said;
+}
+
+/* a piece, beside what it must do to any state and any kept symbols */
+static uint32_t feed(lr800_hunt_state *state, fence *kept, const uint8_t *piece, size_t length) {
+    static uint8_t after_kept[LONGEST];
+    lr800_hunt_state after = *state;
+    uint32_t expected = kept->length != LR800_HUNT_KEPT ? 2 : !after.found && length > UINT64_MAX - after.taken ? LR800_TOO_MANY_SYMBOLS : 0;
+    if (kept->length) memcpy(after_kept, kept->lent, kept->length);
+    for (size_t i = 0; i < length && expected == 0 && !after.found; i++) {
+        after_kept[lr800_hunt_place(after.taken++)] = piece[i];
+        after.found = after.taken >= LR800_FRAME && kept_lock(after_kept, after.taken);
+    }
+    uint32_t answer = lr800_hunt_feed(state, kept->length ? kept->lent : NULL, kept->length, length ? piece : NULL, length);
+    mark(TAKEN_IN, 2 * answer + (after.found != 0));
+    MUST(answer == expected && same_search(state, &after) && same_bytes(kept->lent, after_kept, kept->length));
+    check_fence(kept);
+    ask(state);
+    return answer;
+}
+
+/* the capture as a run of symbols, all of it and its beginnings up to where the answer changes; answers what is said of all of it */
+static lr800_found check_whole(void) {
+    size_t start = 0;
+    while (capture_length >= LR800_FRAME && start <= capture_length - LR800_FRAME && !locks(from_place(start))) start++;
+    int is_there = capture_length >= LR800_FRAME && start <= capture_length - LR800_FRAME;
+    size_t end = is_there ? start + LR800_FRAME : capture_length;
+    size_t lengths[] = {0, LR800_FRAME - 1, LR800_FRAME, end - (end > 0), end, (size_t)(control[PIECES] % (capture_length + 1)), capture_length};
+    lr800_found said = {0, 0, 0};
+    for (unsigned i = 0; i < sizeof lengths / sizeof lengths[0]; i++) {
+        if (lengths[i] > capture_length) continue;
+        said = lr800_hunt(capture, lengths[i]);
+        MUST(same_found(said, due(lengths[i], is_there, start)));
+    }
+    mark(HUNTED, said.refusal ? 2 : said.found);
+    if (said.found) MUST(lr800_hunt(from_place(start), LR800_FRAME).found == 1); /* a frame's own symbols: whether it locks */
+    return said;
+}
+
+/* the capture in pieces cut anywhere: the answer is that of the whole after each, and the frame found is kept. Twice, over other bytes: what stands in the kept
+ * symbols before must not matter */
+static void check_pieces(lr800_found said) {
+    static fence kept, piece;
+    for (int again = 0; again < 2; again++) {
+        lr800_hunt_state state = {control[FED], control[FOUND]};
+        uint64_t cuts = control[PIECES] ^ (uint64_t)again;
+        lend(&kept, LR800_HUNT_KEPT, again ? pilots[0] : 0x3C);
+        lr800_hunt_open(&state);
+        MUST(state.taken == 0 && state.found == 0);
+        for (size_t place = 0, length; place < capture_length; place += length) {
+            cuts = cuts * 6364136223846793005u + 1442695040888963407u;
+            length = cuts >> 61 ? (size_t)(cuts >> 33) % LR800_FRAME : (size_t)(cuts >> 33) % 3;
+            if (length > capture_length - place) length = capture_length - place;
+            MUST(feed(&state, &kept, lend_filled(&piece, length, from_place(place), length), length) == 0);
+            check_fence(&piece);
+            MUST(same_found(ask(&state), due(place + length, (int)said.found, (size_t)said.offset)));
+        }
+        MUST(same_found(ask(&state), said));
+        MUST(state.taken == (said.found ? said.offset + LR800_FRAME : capture_length) && state.found == said.found);
+        for (size_t j = 0; j < LR800_FRAME && said.found; j++) MUST(kept.lent[lr800_hunt_place(said.offset + j)] == capture[said.offset + j]);
+    }
+}
+
+/* one piece to any stored state, and to such as are at its limits; the kept symbols are those that the capture has before the piece, or the capture's first */
+static void check_any_search(void) {
+    static fence kept, piece;
+    size_t place = (size_t)(control[PLACE] % (capture_length + 1)), left = capture_length - place;
+    size_t length = left < LR800_FRAME ? left : LR800_FRAME, room = some_length(STORE_LENGTH, LR800_HUNT_KEPT);
+    uint64_t feds[] = {control[FED], place, UINT64_MAX - length, UINT64_MAX - length + 1, UINT64_MAX, UINT32_MAX, LR800_FRAME - 1, LR800_FRAME};
+    uint64_t founds[] = {0, control[FOUND]};
+    for (unsigned i = 0; i < 2 * sizeof feds / sizeof feds[0]; i++) {
+        lr800_hunt_state state = {feds[i / 2], founds[i % 2]};
+        lend_filled(&kept, room, capture, capture_length);
+        for (size_t j = 0; j < LR800_HUNT_KEPT && j < place && j < state.taken && room == LR800_HUNT_KEPT && i % 4 < 2; j++)
+            kept.lent[lr800_hunt_place(state.taken - 1 - j)] = capture[place - 1 - j];
+        feed(&state, &kept, NULL, 0);
+        feed(&state, &kept, lend_filled(&piece, length, from_place(place), length), length);
+        check_fence(&piece);
+        feed(&state, &kept, from_place(place), length < 3 ? length : 3);
+    }
+}
+
+static void check_hunt(void) {
+    check_pieces(check_whole());
+    check_any_search();
+}
+
 int LLVMFuzzerTestOneInput(const uint8_t *data, size_t size) {
     static fence lent;
     static int begun;
@@ -672,6 +797,7 @@ int LLVMFuzzerTestOneInput(const uint8_t *data, size_t size) {
     size_t from = first.kind == LR800_RECORD_FRAME ? first.symbols : 0;
     check_receive(from_place(from), capture_length - from);
     check_traffic();
+    check_hunt();
 
     /* any stored numbers are lawful */
     lr800_run run = {(uint32_t)(control[STOPPED] >> 32), (uint32_t)(control[FIGURES] >> 32), (uint32_t)control[FIGURES],
@@ -739,7 +865,7 @@ static void put_control(uint8_t *data, unsigned which, uint64_t n) {
 
 /* numbers at which something changes */
 static uint64_t telling(void) {
-    static const uint64_t at[] = {0, 1, 2, 320, 384, 448, 704, 768, 1000000, 384000000, (uint64_t)1 << 31, (uint64_t)1 << 32, (uint64_t)1 << 63};
+    static const uint64_t at[] = {0, 1, 2, 320, 384, 448, 704, 768, 6144, 1000000, 384000000, (uint64_t)1 << 31, (uint64_t)1 << 32, (uint64_t)1 << 63};
     return at[below(sizeof at / sizeof at[0])] + below(5) - 2;
 }
 

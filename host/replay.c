@@ -1,8 +1,9 @@
 /* Makes the calls that standard input tells and compares every answer and every byte with what it says they must be.
  * A record begins with a byte, the number of the archive's function in the order of adderbloom.h, lr800_send being 0. Its arguments follow in their order,
  * then the answer, then all that the call may write as it must be after it: accounts, runs, states and buffers in the order of the arguments. Numbers have
- * four or eight bytes, highest first, a size_t eight; accounts, runs and records are their fields; a buffer is its length, four bytes, and its bytes, but
- * after the call only its bytes; a buffer of counts likewise, its length the number of counts, and each count four bytes.
+ * four or eight bytes, highest first, a size_t eight; accounts, runs, records, the state of a search and what it says are their fields in their order; a
+ * buffer is its length, four bytes, and its bytes, but after the call only its bytes; a buffer of counts likewise, its length the number of counts, and each
+ * count four bytes. What a call may only read does not stand behind it again, and must be as it was.
  * Guard bytes stand around every buffer, account, run and state; a buffer of bytes may begin at any address, one of counts at any that is aligned for them,
  * and one of none is lent as a null pointer. */
 #include "adderbloom.h"
@@ -17,12 +18,13 @@
 enum { GUARD_BYTE = 0xA5 };
 
 enum { SEND, RECEIVE, ACCOUNT_OPEN, ACCOUNT_ENTER, ACCOUNT_LOSE, VERDICT, READ, WANTED, RUN_OPEN, RUN_STEP, RUN_STOP, RUN_VERDICT, RUN_REPORT, EXAMINE,
-       EXAMINE_VERDICT, TRAFFIC_STATE, TRAFFIC_FRAME, TRAFFIC_NEXT, TRAFFIC_CHECK, FUNCTIONS, READ_KIND = FUNCTIONS, STEP_PHASE, WRONG_BITS, TALLIED,
-       TALLIES };
+       EXAMINE_VERDICT, TRAFFIC_STATE, TRAFFIC_FRAME, TRAFFIC_NEXT, TRAFFIC_CHECK, HUNT, HUNT_OPEN, HUNT_FEED, HUNT_ANSWER, FUNCTIONS,
+       READ_KIND = FUNCTIONS, STEP_PHASE, WRONG_BITS, TALLIED, HUNT_FOUND, FEED_FOUND, FEED_AFTER, ANSWER_FOUND, TALLIES };
 
 /* how often each number occurred that the header lists; of a run's reports, none, the shortest and the longest; of captures', none, the shortest and that of no
  * bytes; of states, that of no bits and that of one; of the wrong bits of a lane, none, one, and all that are compared, of the second frame and of a later
- * one; of the words that an accepted frame adds to the tallies, those of the start number, of the next and of every other */
+ * one; of the words that an accepted frame adds to the tallies, those of the start number, of the next and of every other; of what was searched and not
+ * refused, whether a start was found, and of pieces fed, whether one was found with them or before */
 enum { MOST_NUMBERS = 8 };
 typedef struct {
     const char *name;
@@ -56,6 +58,14 @@ static tally tallies[TALLIES] = {
     [TRAFFIC_CHECK] = {.name = "lr800_traffic_check answered", .count = 3, .numbers = {0, 1, 3}},
     [WRONG_BITS] = {.name = "lr800_traffic_check counted in a lane", .count = 4, .numbers = {0, 1, 1200, 1320}, .open = 1},
     [TALLIED] = {.name = "accepted frames added words", .count = 3, .numbers = {0, 320, 384}},
+    [HUNT] = {.name = "lr800_hunt refused by", .count = 2, .numbers = {0, 13}},
+    [HUNT_FOUND] = {.name = "lr800_hunt found", .count = 2, .numbers = {0, 1}},
+    [HUNT_OPEN] = {.name = "lr800_hunt_open opened", .count = 1, .numbers = {0}},
+    [HUNT_FEED] = {.name = "lr800_hunt_feed answered", .count = 3, .numbers = {0, 2, 23}},
+    [FEED_FOUND] = {.name = "lr800_hunt_feed left found", .count = 2, .numbers = {0, 1}},
+    [FEED_AFTER] = {.name = "lr800_hunt_feed behind a start left found", .count = 1, .numbers = {1}, .open = 1},
+    [HUNT_ANSWER] = {.name = "lr800_hunt_answer refused by", .count = 2, .numbers = {0, 13}},
+    [ANSWER_FOUND] = {.name = "lr800_hunt_answer found", .count = 2, .numbers = {0, 1}},
 };
 
 static unsigned long calls, in_runs;
@@ -108,6 +118,13 @@ static lr800_run take_run(void) {
     r.allowed = take32();
     r.account = take_account();
     return r;
+}
+
+static lr800_hunt_state take_hunt_state(void) {
+    lr800_hunt_state s;
+    s.taken = take64();
+    s.found = take64();
+    return s;
 }
 
 /* ---- What is lent ---- */
@@ -208,6 +225,14 @@ static void compare_runs(const lr800_run *a, const lr800_run *b, const char *fun
     if (a->phase != b->phase) stop(function, "left another phase");
     if (a->asked != b->asked || a->allowed != b->allowed) stop(function, "left other figures");
     compare_accounts(&a->account, &b->account, function);
+}
+
+static void compare_hunt_states(const lr800_hunt_state *a, const lr800_hunt_state *b, const char *function) {
+    if (a->taken != b->taken) {
+        fprintf(stderr, "replay: %llu, not %llu\n", (unsigned long long)a->taken, (unsigned long long)b->taken);
+        stop(function, "left another number of symbols taken in");
+    }
+    if (a->found != b->found) stop(function, "left another number of what was found");
 }
 
 /* ---- The calls ---- */
@@ -414,6 +439,51 @@ static void replay_traffic_check(void) {
     compare_counts(wrong, name);
 }
 
+/* what a search says, field by field, and counted */
+static void searched(int refused, int found, const char *name, lr800_found said) {
+    answered(refused, name, said.refusal, take32());
+    if (said.found != take32()) stop(name, "found a start where none is, or none where one is");
+    if (said.refusal == 0) count(found, said.found);
+    uint64_t offset = take64();
+    if (said.offset != offset) {
+        fprintf(stderr, "replay: %llu, not %llu\n", (unsigned long long)said.offset, (unsigned long long)offset);
+        stop(name, "found another offset");
+    }
+}
+
+static void replay_hunt(void) {
+    const char *name = "lr800_hunt";
+    buffer run = take_buffer();
+    searched(HUNT, HUNT_FOUND, name, lr800_hunt(lent(run), run.lent.length));
+    compare(run, name, "wrote the run");
+}
+
+/* all that are lent a search's state; the one that only asks must leave it as it was */
+static void replay_hunt_state(int function) {
+    const char *name = function == HUNT_OPEN ? "lr800_hunt_open" : function == HUNT_FEED ? "lr800_hunt_feed" : "lr800_hunt_answer";
+    guarded block = guard(sizeof(lr800_hunt_state), 0);
+    lr800_hunt_state *state = (lr800_hunt_state *)(void *)block.bytes, before = take_hunt_state(), after = before;
+    *state = before;
+    if (function == HUNT_OPEN) {
+        lr800_hunt_open(state);
+        after = take_hunt_state();
+        count(function, 0);
+    } else if (function == HUNT_FEED) {
+        buffer kept = take_buffer(), piece = take_buffer();
+        uint32_t right = take32();
+        after = take_hunt_state();
+        take_after(kept);
+        answered(function, name, lr800_hunt_feed(state, lent(kept), kept.lent.length, lent(piece), piece.lent.length), right);
+        if (right == 0) count(before.found ? FEED_AFTER : FEED_FOUND, after.found);
+        compare(kept, name, "left other kept symbols");
+        compare(piece, name, "wrote the piece");
+    } else {
+        searched(function, ANSWER_FOUND, name, lr800_hunt_answer(*state));
+    }
+    compare_hunt_states(state, &after, name);
+    release(block, name);
+}
+
 /* a replay that did not meet every number has shown nothing of those that it left out */
 static void tell(const tally *t) {
     printf("%s", t->name);
@@ -447,6 +517,10 @@ int main(void) {
         case TRAFFIC_FRAME: replay_traffic_frame(); break;
         case TRAFFIC_NEXT: replay_traffic_next(); break;
         case TRAFFIC_CHECK: replay_traffic_check(); break;
+        case HUNT: replay_hunt(); break;
+        case HUNT_OPEN:
+        case HUNT_FEED:
+        case HUNT_ANSWER: replay_hunt_state(function); break;
         default: stop("the record", "is of no function");
         }
         calls++;

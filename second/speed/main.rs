@@ -1,13 +1,14 @@
-//! The archive beside this program, in one run: first both make the same calls, then each is timed, whole calls and stage by stage, test traffic among them;
-//! at last their programs that examine a capture. `run` links it, and gives it the folder where it finds them.
+//! The archive beside this program, in one run: first both make the same calls, then each is timed, whole calls and stage by stage, test traffic and the search
+//! for a frame's start among them; at last their programs that examine a capture. `run` links it, and gives it the folder where it finds them.
 
 use second::account::{enter_flags, FILL_WORDS};
 use second::capture::{length, Answer, Reader, FRAME_RECORD, LENGTH_BYTES};
+use second::hunt::{self, Found, State};
 use second::lanes::{deinterleave, interleave, lanes_of_words, permute, words, EXCHANGED, LANES, LANES_BYTES, STORE_BYTES};
 use second::receive::receive_with;
 use second::run::{examine_verdict, Run};
 use second::send::send;
-use second::symbols::{bit_place, frame, frame_words, wrong_pilots, FRAME_SYMBOLS, NO_LOCK};
+use second::symbols::{bit_place, frame, frame_words, locks, FRAME_SYMBOLS, NO_LOCK, PILOT_COUNT, ROW_SYMBOLS};
 use second::traffic;
 use second::word::{encode_frame, Decoder, FRAME_WORDS};
 use second::xorshift::Xorshift;
@@ -37,6 +38,10 @@ extern "C" {
     fn lr800_traffic_frame(frame: u32, output: *mut u8, output_length: usize) -> u32;
     fn lr800_traffic_next(state: &mut u32, output: *mut u8, output_length: usize) -> u32;
     fn lr800_traffic_check(frame: u32, lanes: *const u8, lanes_length: usize, wrong: *mut u32, wrong_length: usize) -> u32;
+    fn lr800_hunt(run: *const u8, run_length: usize) -> Found;
+    fn lr800_hunt_open(state: &mut State);
+    fn lr800_hunt_feed(state: &mut State, kept: *mut u8, kept_length: usize, piece: *const u8, piece_length: usize) -> u32;
+    fn lr800_hunt_answer(state: State) -> Found;
     // the stages, as `run` exports them
     fn stage_interleave(lanes: &Lanes, store: &mut Store, out: &mut Lanes);
     fn stage_to_words(lanes: &Lanes, words: &mut Words);
@@ -73,9 +78,30 @@ fn archive_check(number: u32, lanes: &Lanes, wrong: &mut Wrong) -> u32 {
     unsafe { lr800_traffic_check(number, lanes.as_ptr(), lanes.len(), wrong.as_mut_ptr(), wrong.len()) }
 }
 
+fn archive_hunt(run: &[u8]) -> Found {
+    unsafe { lr800_hunt(run.as_ptr(), run.len()) }
+}
+
+fn archive_open() -> State {
+    let mut state = State { taken: 7, found: 7 };
+    unsafe { lr800_hunt_open(&mut state) };
+    state
+}
+
+fn archive_feed(state: &mut State, kept: &mut Frame, piece: &[u8]) -> u32 {
+    unsafe { lr800_hunt_feed(state, kept.as_mut_ptr(), kept.len(), piece.as_ptr(), piece.len()) }
+}
+
+fn archive_answer(state: &State) -> Found {
+    unsafe { lr800_hunt_answer(*state) }
+}
+
 const COMPARED: usize = 300;
 const TIMED: usize = 1000;
 const ROUNDS: usize = 15;
+const HUNTED: usize = 10_000_000;
+const HUNT_ROUNDS: usize = 5;
+const LONG_PIECE: usize = 65_536;
 const CAPTURED: usize = 100_000;
 const CAPTURE_ROUNDS: usize = 3;
 
@@ -152,6 +178,40 @@ fn compare_traffic(random: &mut Xorshift, recovered: &[(u32, Lanes)]) {
     }
 }
 
+/// Both search a run for each frame, which is among random symbols, has about as many wrong pilots as may be and is cut now and then: the whole run, and then
+/// pieces of it. Returns how many were found.
+fn compare_hunt(random: &mut Xorshift, frames: &[Frame]) -> usize {
+    let mut found = 0;
+    for frame in frames {
+        let mut frame = *frame;
+        let wrong = NO_LOCK - 2 + random.below(4) as usize;
+        for (n, number) in random.choose(PILOT_COUNT, wrong).into_iter().enumerate() {
+            // in turn in the X half alone and in the Y half alone
+            frame[ROW_SYMBOLS * number] ^= [0x10, 0x01][n % 2];
+        }
+        let [before, behind, cut] = [2 * FRAME_SYMBOLS, FRAME_SYMBOLS, 3].map(|most| random.below(most as u64) as usize);
+        let mut run = [&random.bytes(before)[..], &frame, &random.bytes(behind)].concat();
+        run.truncate(run.len() - cut);
+        let said = hunt::hunt(&run);
+        assert_eq!(archive_hunt(&run), said, "another start is found");
+        found += said.found as usize;
+
+        let (mut ours, mut theirs) = (hunt::open(), archive_open());
+        let mut a: Frame = random_bytes(random);
+        let (mut b, mut rest) = (a, &run[..]);
+        while !rest.is_empty() {
+            let most = random.pick(&[1, 100, 1_000, 10_000]);
+            let (piece, behind) = rest.split_at((random.below(most + 1) as usize).min(rest.len()));
+            assert_eq!((hunt::feed_fast(&mut ours, &mut a, piece), archive_feed(&mut theirs, &mut b, piece)), (0, 0), "a piece is refused");
+            assert!(a == b && ours == theirs, "kept symbols or states differ");
+            assert_eq!(hunt::answer(&ours), archive_answer(&theirs), "another answer is given");
+            rest = behind;
+        }
+        assert_eq!(hunt::answer(&ours), said, "another start is found in pieces");
+    }
+    found
+}
+
 /// Rust and archive in turn, round by round, each over all items in their order and with a store that is fresh at the first; then the best round of each,
 /// the slowest, and the ratio of the best, in microseconds an item. Returns the best.
 fn row<I>(name: &str, items: &[I], mut rust: impl FnMut(&I, &mut Store), mut archive: impl FnMut(&I, &mut Store)) -> [f64; 2] {
@@ -210,7 +270,7 @@ fn verdict_without_lanes(decoder: &Decoder, capture: &[u8]) -> u32 {
 /// A frame of a run that goes on is entered by its flags alone; whatever else comes is the run's own to take.
 fn take_without_lanes(decoder: &Decoder, run: &mut Run, answer: Answer) -> bool {
     if let (Answer::Frame { number, symbols }, Some(_), None) = (answer, run.order, run.stop) {
-        if wrong_pilots(symbols) < NO_LOCK {
+        if locks(symbols) {
             let (mut words, mut flags) = (frame_words(symbols), [0; FRAME_WORDS]);
             decoder.decode_frame(&mut words, &mut flags);
             let (refusal, account) = enter_flags(run.account, number, &flags);
@@ -361,7 +421,7 @@ fn receiving_stages(decoder: &Decoder, kind: &str, frames: &[Frame]) {
     });
     let lanes = made(&mended, |mended, _| lanes_of_words(mended));
     if kind == "clean" {
-        stage("  lock", frames, 0, |i, _, o| *o = u32::from(wrong_pilots(i) < NO_LOCK), |i, _, o| *o = unsafe { stage_locks(i.as_ptr(), i.len()) });
+        stage("  lock", frames, 0, |i, _, o| *o = u32::from(locks(i)), |i, _, o| *o = unsafe { stage_locks(i.as_ptr(), i.len()) });
         stage("  frame to words", frames, [0; 2 * FRAME_WORDS], |i, _, o| *o = frame_words(i), |i, _, o| unsafe { stage_words_from_frame(i, o) });
     }
     stage(
@@ -427,6 +487,55 @@ fn rows_traffic(recovered: &[(u32, Lanes)]) {
     println!("frame 4,294,967,295 directly takes {archive:.2} times as long as frame 0 in the archive, {rust:.2} times in the Rust");
 }
 
+/// Rust and archive in turn, round by round, over symbols in which no frame starts; then as `row` does, in nanoseconds a symbol.
+fn row_hunt(name: &str, rust: impl Fn() -> Found, archive: impl Fn() -> Found) -> [f64; 2] {
+    let mut best = [(f64::MAX, 0f64); 2];
+    for _ in 0..HUNT_ROUNDS {
+        for (best, search) in best.iter_mut().zip([&rust as &dyn Fn() -> Found, &archive]) {
+            let start = Instant::now();
+            assert_eq!(search(), hunt::NONE, "{name}: a start is found where there is none");
+            let time = start.elapsed().as_secs_f64() * 1e9 / HUNTED as f64;
+            *best = (best.0.min(time), best.1.max(time));
+        }
+    }
+    print_row(name, best[0], best[1]);
+    best.map(|(best, _)| best)
+}
+
+/// A whole run in pieces of so many symbols from an opened search on, with what is kept at the end: the last symbols, each at its place.
+fn fed(run: &[u8], size: usize, mut state: State, feed: impl Fn(&mut State, &mut Frame, &[u8]) -> u32) -> State {
+    let mut kept = [0x55; FRAME_SYMBOLS];
+    for piece in run.chunks(size) {
+        assert_eq!(feed(&mut state, &mut kept, black_box(piece)), 0, "a piece is refused");
+    }
+    let last = (run.len() - FRAME_SYMBOLS..run.len()).all(|n| kept[hunt::place(n as u64)] == run[n]);
+    assert!(last, "other symbols are kept than the last");
+    state
+}
+
+fn rows_hunt(random: &mut Xorshift) {
+    println!("nanoseconds a symbol: the best and the slowest of {HUNT_ROUNDS} rounds of {HUNTED} symbols in which no frame starts; the ratio of the best");
+    println!("{:36} {:>17} {:>19} {:>8}", "", "Rust", "archive", "ratio");
+    let (any, zeros) = (random.bytes(HUNTED), vec![0; HUNTED]);
+    let outer: Vec<u8> = any.iter().map(|symbol| symbol & 0xAA).collect();
+    let [whole, ..] = [("random symbols", &any), ("zeros", &zeros), ("random symbols of outer levels", &outer)].map(|(name, run)| {
+        let archive = || archive_hunt(black_box(run));
+        let best = row_hunt(name, || hunt::hunt(black_box(run)), archive);
+        row_hunt("  the Rust offset by offset", || hunt::hunt_by_offset(black_box(run)), archive);
+        best
+    });
+    let pieces = [("random symbols one by one", 1), ("random symbols, 65,536 at a time", LONG_PIECE)].map(|(name, size)| {
+        row_hunt(
+            name,
+            || hunt::answer(&fed(&any, size, hunt::open(), |state, kept, piece| hunt::feed_fast(state, kept, piece))),
+            || archive_answer(&fed(&any, size, archive_open(), archive_feed)),
+        )
+    });
+    let [rust, archive] = [0, 1].map(|side| pieces.map(|best| best[side] / whole[side]));
+    println!("a symbol fed alone takes {:.2} times as long as one of a whole run in the archive, {:.2} times in the Rust;", archive[0], rust[0]);
+    println!("one fed with 65,535 others {:.2} times in the archive, {:.2} times in the Rust", archive[1], rust[1]);
+}
+
 fn main() {
     let word = std::env::args().nth(1).expect("the folder of the programs");
     if word == "without-lanes" {
@@ -448,9 +557,11 @@ fn main() {
     compare_receive(&mut random, &decoder, &mixed[..COMPARED], None);
     compare_receive(&mut random, &decoder, &any, None);
     compare_traffic(&mut random, &recovered[..COMPARED]);
+    let found = compare_hunt(&mut random, &clean[..COMPARED]);
     println!("{COMPARED} frames sent, and received clean, with two flips in every word, with 0 to 2 at random and with 0 to 6 at random:");
     println!("the same frames, lanes, flags and stores");
     println!("{COMPARED} frames of test traffic on from any state, by any number and checked as they come back: the same lanes, states and counts");
+    println!("{COMPARED} runs searched for a frame's start, {found} with one, whole and in pieces: the same answers, states and kept symbols");
 
     println!("microseconds a frame: the best and the slowest of {ROUNDS} rounds of {TIMED} frames; the ratio of the best");
     println!("{:36} {:>17} {:>19} {:>8}", "", "Rust", "archive", "ratio");
@@ -481,6 +592,7 @@ fn main() {
     rows_examined(&decoder, "examined, two flips in every word", &two);
     rows_examined(&decoder, "examined, 0 to 2 flips at random", &mixed);
     rows_traffic(&recovered);
+    rows_hunt(&mut random);
 
     println!("a capture file of {CAPTURED} frames as standard input of each side's program, all with the same report, PASS:");
     println!("the best of {CAPTURE_ROUNDS} rounds, its ratio to the Rust's, and the most resident memory");

@@ -2,6 +2,7 @@
 
 pub mod account;
 pub mod capture;
+pub mod hunt;
 pub mod kept;
 pub mod lanes;
 pub mod receive;

@@ -3,7 +3,7 @@
 use crate::lanes::{deinterleave, lanes_of_words, permute, EXCHANGED, LANES_BYTES, STORE_BYTES};
 use crate::send::{bits_of, interleave_by_rule, put_bits, Bits};
 use crate::symbols::{
-    frame_place, frame_words, shuffled_place, source, wrong_pilots, FRAME_SYMBOLS, NO_LOCK, PILOTS,
+    frame_place, frame_words, locks, shuffled_place, source, FRAME_SYMBOLS, PILOTS,
 };
 use crate::word::{Decoder, FRAME_WORDS};
 use std::sync::OnceLock;
@@ -44,7 +44,7 @@ pub fn receive_with(
         Ok(flags) => flags,
         Err(_) => return 4,
     };
-    if wrong_pilots(input) >= NO_LOCK {
+    if !locks(input) {
         return 5;
     }
 

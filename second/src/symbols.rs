@@ -175,6 +175,11 @@ pub fn wrong_pilots(frame: &[u8; FRAME_SYMBOLS]) -> usize {
         .count()
 }
 
+/// Whether a frame locks.
+pub fn locks(frame: &[u8; FRAME_SYMBOLS]) -> bool {
+    wrong_pilots(frame) < NO_LOCK
+}
+
 /// Exchanges the bits of `low` at the mask with those of `high` so many places above it.
 #[inline(always)]
 fn exchange(low: &mut u8, high: &mut u8, above: u32, mask: u8) {
@@ -562,6 +567,7 @@ mod tests {
         let mut frame = right;
         for row in 0..PILOT_COUNT {
             assert_eq!(wrong_pilots(&frame), row);
+            assert_eq!(locks(&frame), row < 25);
             frame[ROW_SYMBOLS * row] ^= 1 << random.below(8);
         }
         assert_eq!(wrong_pilots(&frame), 96);

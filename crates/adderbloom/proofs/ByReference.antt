@@ -21,7 +21,7 @@ use types.Part.{whole, sub, look-in}
 use types.Run.{Walks as Leads, Finds, Opds, Rv, look, look-raw, init, store-raw, forget, stop, hop, fld, from, load, unit-lit, of-opd, assigns, land, returns}
 use types.SemTy.{Body}
 use sound.WpLaws.{FmC}
-use denote.Exit.{yes}
+use denote.Exit.{yes, left}
 use denote.RattleType.{RattleType, Denots, Valss, flat, owns}
 use denote.Laws.{Is, Ises, Are, Spells, valss, Tellss, Makes, shows}
 use denote.Memory.{mem, cellAt, lone}
@@ -269,6 +269,17 @@ module _ {M : Type 1} (𝓤 : URA M) (H : Heap 𝓤) (A : Atoms 𝓤) (W : Given
       (valss (typesAt (lending S n ss ks R .signature .params) κs) (ptr-vals, sp κs) a)) ∷ []) ∵
       split ! $ move ! (2 ∷ []) $ fsplit ! $ fsplit3 ! $ drop ! $ move ! (0 ∷ 1 ∷ 3 ∷ 4 ∷ []) $
       by ! (goes κs qs (a .0) (a .1) g (are .1) _ (exits κs qs (a .0) (a .1) g _)))))
+
+-- ---- the others are passed on to a callee: what is had of them at exit is what the callee says of them
+module _ {n : ℕ} where
+  abbrev pub passed : (ss : List (Slot n)) (ks : Kepts ss) → Stays ss ks
+  passed [] ks = tt
+  passed (s ∷ ss) ks = (record { fit = λ κs x f. Unit {0}; has = λ κs x f vs. left (s .row κs .exit (ks .0)) x f }, passed ss (ks .1))
+
+  module _ {M : Type 1} (𝓤 : URA M) (H : Heap 𝓤) (A : Atoms 𝓤) (W : Given 𝓤 H A) where
+    pub passed-go : (ss : List (Slot n)) (ks : Kepts ss) → AllGo 𝓤 H A W n ss ks (passed ss ks)
+    passed-go [] ks = tt
+    passed-go (s ∷ ss) ks = ((λ κs x f vs ok. W .laws .⇛-intro (sem 𝓤 H A (left (s .row κs .exit (ks .0)) x f))), passed-go ss (ks .1))
 
 -- ---- of the others nothing is said at exit, and nothing need be had
 module _ {n : ℕ} where

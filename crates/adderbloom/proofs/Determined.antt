@@ -48,6 +48,13 @@ use Rattle.adderbloom.proofs.test_traffic.lr800_traffic_next.Kinds as t
 use Rattle.adderbloom.proofs.test_traffic.lr800_traffic_next.Reads as traffic-next-reads
 use Rattle.adderbloom.proofs.test_traffic.lr800_traffic_check.Kinds as traffic-check-kinds
 use Rattle.adderbloom.proofs.test_traffic.lr800_traffic_check.Reads as traffic-check-reads
+use Rattle.adderbloom.proofs.hunts.lr800_hunt.Kinds as hunt-kinds
+use Rattle.adderbloom.proofs.hunts.lr800_hunt.Reads as hunt-reads
+use Rattle.adderbloom.proofs.hunts.lr800_hunt_answer.Kinds as hunt-answer-kinds
+use Rattle.adderbloom.proofs.hunts.lr800_hunt_answer.Reads as hunt-answer-reads
+use Rattle.adderbloom.proofs.hunts.lr800_hunt_open as hunt-open
+use Rattle.adderbloom.proofs.hunts.lr800_hunt_feed as hunt-feed
+use Rattle.hunt.specs.definitions.Pieces.{opened as hunt-opened, Feeds}
 
 -- the number, and the store and the output at exit
 pub send-determined : Fixes 3 send-kinds.ps send-kinds.r send-reads.Post (λ κs s t. (now (s .1 .0) ≡ now (t .1 .0)) × (now (s .1 .1 .0) ≡ now (t .1 .1 .0)))
@@ -96,7 +103,13 @@ traffic-next-determined κs a x y s t p q = (p .number ∙ sym (q .number), (p .
 pub traffic-check-determined : Fixes 2 traffic-check-kinds.ps traffic-check-kinds.r traffic-check-reads.Post (λ κs s t. now (s .1 .1 .0) ≡ now (t .1 .1 .0))
 traffic-check-determined κs a x y s t p q = (p .number ∙ sym (q .number), p .counts ∙ sym (q .counts))
 
--- The functions that are lent an account or a run are proved by a walk.
+pub hunt-determined : Fixes 1 hunt-kinds.ps hunt-kinds.r hunt-reads.Post (λ κs s t. Unit)
+hunt-determined κs a x y s t p q = (p ∙ sym q, tt)
+
+pub hunt-answer-determined : Fixes 0 hunt-answer-kinds.ps hunt-answer-kinds.r hunt-answer-reads.Post (λ κs s t. Unit)
+hunt-answer-determined κs a x y s t p q = (p ∙ sym q, tt)
+
+-- The functions that are lent an account, a run or a search's numbers are proved by a walk.
 
 -- two entries that are equal, part by part
 parts : (x y : Entry) → x ≡ y → (x .refusal ≡ y .refusal) × (x .account ≡ y .account)
@@ -132,4 +145,17 @@ module _ {M : Type 1} (𝓤 : URA M) (H : Heap 𝓤) (A : Atoms 𝓤) (mem : Mem
     (λ r s. record { refusal = r; run = now (s .0) } ≡ stepAnswer (now (a .0)) (now (a .1 .0))),
     (λ x s. refl),
     (λ x y s t p q. let e = p ∙ sym q in (ap (λ (z : Answer). z .refusal) e, ap (λ (z : Answer). z .run) e)),
+  )
+
+  -- the search's numbers at exit
+  pub hunt-open-determined : FixesSaid 𝓤 hunt-open.ended (hunt-open.clauses 𝓤 H A mem run) (λ κs x y s t. (x ≡ y) × (now (s .0) ≡ now (t .0)))
+  hunt-open-determined κs a g = ((λ r s. now (s .0) ≡ hunt-opened), (λ x s. refl), (λ x y s t p q. (refl, p ∙ sym q)))
+
+  -- the number, and the search's numbers and the symbols kept at exit
+  pub hunt-feed-determined : FixesSaid 𝓤 hunt-feed.ended (hunt-feed.clauses 𝓤 H A mem run)
+      (λ κs x y s t. (x ≡ y) × (now (s .0) ≡ now (t .0)) × (now (s .1 .0) ≡ now (t .1 .0)))
+  hunt-feed-determined κs a g = (
+    (λ r s. Feeds (now (a .0)) (now (a .1 .0)) (now (a .1 .1 .0)) r (now (s .0)) (now (s .1 .0))),
+    (λ x s. refl),
+    (λ x y s t p q. (p .number ∙ sym (q .number), p .hunt ∙ sym (q .hunt), p .symbols ∙ sym (q .symbols))),
   )

@@ -1,4 +1,5 @@
--- What a host lends, as structs of plain numbers: an account, which an entry answers by, and a run, which a step answers by.
+-- What a host lends, as structs of plain numbers: an account, which an entry answers by, a run, which a step answers by, and the numbers of a search, which a
+-- piece is answered by.
 -- Assumes nothing.
 use mathlib.Core.Path.{refl}
 use denote.Struct.Laws as LL
@@ -7,6 +8,10 @@ use Rattle.account.proofs.Account as A
 use Rattle.account.proofs.Account.Laws as A′
 use Rattle.account.proofs.Entry as E
 use Rattle.account.proofs.Entry.Laws as E′
+use Rattle.hunt.proofs.Hunt as H
+use Rattle.hunt.proofs.Hunt.Laws as H′
+use Rattle.hunt.proofs.Fed as F
+use Rattle.hunt.proofs.Fed.Laws as F′
 use Rattle.adderbloom.proofs.runs.Run as R
 use Rattle.adderbloom.proofs.runs.Run.Laws as R′
 use Rattle.adderbloom.proofs.runs.Answer as S
@@ -40,4 +45,19 @@ a-step = record {
   written = λ r. refl;
   fits = λ r is. LL.owed S.the-type S′.the-laws r _ is .0 .1;
   lawful = λ r is. LL.owed S.the-type S′.the-laws r _ is .1 .0;
+}
+
+abbrev pub a-hunt : Struct
+a-hunt = record { type = H.the-type; laws = H′.the-laws; facts = H′.the-plain }
+
+abbrev pub a-feed : Answer a-hunt
+a-feed = record {
+  struct = record { type = F.the-type; laws = F′.the-laws; facts = F′.the-plain };
+  number = λ r. r .refusal;
+  part = λ r. r .hunt;
+  name = F.the-type .name;
+  spelled = refl;
+  written = λ r. refl;
+  fits = λ r is. LL.owed F.the-type F′.the-laws r _ is .0 .1;
+  lawful = λ r is. LL.owed F.the-type F′.the-laws r _ is .1 .0;
 }

@@ -1,3 +1,4 @@
 pub mod Entry
+pub mod Found
 pub mod Record
 pub mod Run

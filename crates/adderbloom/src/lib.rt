@@ -1,6 +1,7 @@
 // What a rig's host program in C calls. A slice passes as a pointer and a length, in that order.
 mod captures;
 mod entries;
+mod hunts;
 mod records;
 mod runs;
 mod test_traffic;

@@ -5,6 +5,7 @@ use mathlib.Core.Bool.{Bool, true, false, not, cond, _&&_, _||_}
 use mathlib.Core.Logic.{_≢_}
 use Prim.Native.Nat.{ℕ, zero, suc, _+_, _-_, _≤_, _<_, zero-le}
 use native.Mathlib.Nat.{le-refl, add-zero, add-suc, not-suc-le-zero}
+use native.Mathlib.Numerals.{add-one}
 use native.Mathlib.Omega.{arith}
 use lib.Dec.{eqb}
 use borrow.Author.Tests.{eq-eqb, ne-eqb}
@@ -21,14 +22,30 @@ unfolding count
 count-append p n zero = rw (add-zero n) (omega arith)
 count-append p n (suc m) = rw (add-suc, count-append p n m) (omega arith)
 
+-- a test adds at most one
+pub at-most-one : (b : Bool) → cond b 1 0 ≤ 1
+at-most-one true = le-refl 1
+at-most-one false = zero-le
+
 pub count-le : (p : ℕ → Bool) (n : ℕ) → count p n ≤ n
 unfolding count
 count-le p zero = zero-le
-count-le p (suc n) = omega (arith, at-most (p n), count-le p n)
+count-le p (suc n) = omega (arith, at-most-one (p n), count-le p n)
+
+-- one more is tried
+pub count-more : (p : ℕ → Bool) (n : ℕ) {m x : ℕ} → m ≡ count p n → x ≡ cond (p n) 1 0 → m + x ≡ count p (n + 1)
+unfolding count
+count-more p n e q = rw (add-one, e, q) (omega arith)
+
+-- those that pass a test and those that fail it are all there are
+pub count-both : (p : ℕ → Bool) (n : ℕ) → count p n + count (λ i. not (p i)) n ≡ n
+unfolding count
+count-both p zero = refl
+count-both p (suc n) = omega (arith, one (p n), count-both p n)
   where
-    at-most : (b : Bool) → cond b 1 0 ≤ 1
-    at-most true = le-refl 1
-    at-most false = zero-le
+    one : (b : Bool) → cond b 1 0 + cond (not b) 1 0 ≡ 1
+    one true = refl
+    one false = refl
 
 pub count-or-le : (p q : ℕ → Bool) (n : ℕ) → count (λ i. p i || q i) n ≤ count p n + count q n
 unfolding count

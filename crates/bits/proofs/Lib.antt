@@ -6,6 +6,7 @@ pub mod Words
 pub mod Table
 pub mod Sums
 pub mod First
+pub mod Least
 pub mod Value
 pub mod Fields
 pub mod Joins

@@ -12,6 +12,7 @@ pub mod Labels
 pub mod ReedSolomon
 pub mod Exceeded
 pub mod Fill
+pub mod Hunt
 pub mod Measured
 pub mod Numbers
 pub mod Refusals

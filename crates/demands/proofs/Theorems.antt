@@ -10,6 +10,9 @@ use Rattle.traffic.proofs.Frames.{frame-from, one-after-the-other, one-sequence
 use Rattle.traffic.proofs.Counts.{what-is-compared, counts-exactly, checks-exist}
 use Rattle.traffic.proofs.Refusals.{frame-refusals, next-refusals, check-refusals}
 use Rattle.traffic.proofs.Figures.{traffic-figures}
+use Rattle.hunt.proofs.Exactly.{found-exactly, none-exactly, short-exactly, no-other, answer-exactly}
+use Rattle.hunt.proofs.Runs.{found-by-then, however-cut, all-fed, can-be-fed, all-taken, frame-kept}
+use Rattle.hunt.proofs.Refusals.{feed-refusals}
 use Rattle.framing.proofs.Places.{base-places}
 use Rattle.framing.proofs.Stream.{block-rule}
 use Rattle.framing.proofs.Figures.{bench-figures}
@@ -34,6 +37,7 @@ use Rattle.demands.proofs.ReedSolomon.{carries-exactly, reed-solomon-bo
 use Rattle.demands.proofs.Exceeded.{spans-exist, other-places, other-pairs}
 use Rattle.demands.proofs.Traffic.{traffic-returns, traffic-hit, wrong-test, traffic-speaks}
 use Rattle.demands.proofs.Fill.{fill-bits, fill-words, tallied-exactly}
+use Rattle.demands.proofs.Hunt.{sent-found, hit-found, accepted-found, found-accepted, hunted-alike}
 
 pub demands : Demands
 demands =
@@ -105,6 +109,22 @@ demands =
       addsDue = adds-due;
       fewerThanTwo = fewer-than-two;
       oneNotMeasured = one-not-measured;
+      foundExactly = found-exactly;
+      noneExactly = none-exactly;
+      shortExactly = short-exactly;
+      noOther = no-other;
+      foundByThen = found-by-then;
+      sentFound = sent-found;
+      hitFound = hit-found;
+      acceptedFound = accepted-found;
+      foundAccepted = found-accepted;
+      howeverCut = however-cut;
+      allFed = all-fed;
+      canBeFed = can-be-fed;
+      allTaken = all-taken;
+      frameKept = frame-kept;
+      feedRefusals = feed-refusals;
+      answerExactly = answer-exactly;
     }
 
 pub calls : Calls
@@ -120,4 +140,5 @@ calls =
       stopped = stopped-verdict;
       ownVerdict = own-verdict;
       toldStopped = told-stopped;
+      huntedAlike = hunted-alike;
     }

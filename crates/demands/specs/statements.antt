@@ -9,6 +9,7 @@ pub mod Tallies
 pub mod ReedSolomon
 pub mod Traffic
 pub mod Fill
+pub mod Hunt
 pub mod Verdict
 pub mod Host
 pub mod Demands

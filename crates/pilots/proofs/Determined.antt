@@ -10,6 +10,10 @@ use Rattle.pilots.proofs.pilots.Kinds as pilots-kinds
 use Rattle.pilots.proofs.pilots.Reads as pilots-reads
 use Rattle.pilots.proofs.locks.Kinds as locks-kinds
 use Rattle.pilots.proofs.locks.Reads as locks-reads
+use Rattle.pilots.proofs.first_lock.Kinds as first-kinds
+use Rattle.pilots.proofs.first_lock.Reads as first-reads
+use Rattle.pilots.proofs.locked_column.Kinds as column-kinds
+use Rattle.pilots.proofs.locked_column.Reads as column-reads
 
 pub label-level-determined : Fixes 0 level-kinds.ps level-kinds.r level-reads.Post (λ κs s t. Unit)
 label-level-determined κs a x y s t p q = (p ∙ sym q, tt)
@@ -22,3 +26,9 @@ pilots-determined κs a x y s t p q = (p ∙ sym q, tt)
 
 pub locks-determined : Fixes 1 locks-kinds.ps locks-kinds.r locks-reads.Post (λ κs s t. Unit)
 locks-determined κs a x y s t p q = (p ∙ sym q, tt)
+
+pub first-lock-determined : Fixes 1 first-kinds.ps first-kinds.r first-reads.Post (λ κs s t. Unit)
+first-lock-determined κs a x y s t p q = (p ∙ sym q, tt)
+
+pub locked-column-determined : Fixes 1 column-kinds.ps column-kinds.r column-reads.Post (λ κs s t. Unit)
+locked-column-determined κs a x y s t p q = (p ∙ sym q, tt)

@@ -1,2 +1,3 @@
 pub mod definitions
 pub mod statements
+pub mod private

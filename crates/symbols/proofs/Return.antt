@@ -2,10 +2,10 @@
 -- frame of its words.
 -- Assumes nothing.
 use mathlib.Core.Path.{_≡_, refl, sym, ap, ap₂, _∙_}
-use mathlib.Core.Bool.{true, not, cond}
+use mathlib.Core.Bool.{true, cond}
 use mathlib.Core.List.{List}
 use Prim.Native.Nat.{ℕ, _+_, _-_, _*_, _/_, _%_, _^_, _≤_, _<_}
-use native.Mathlib.Nat.{zero-add, mod-eq-of-lt}
+use native.Mathlib.Nat.{mod-eq-of-lt}
 use native.Mathlib.Decide.{ℕ-discrete, decLt}
 use native.Mathlib.Omega.{arith}
 use lib.Dec.{T, eqb, ltb, ltb→lt}
@@ -17,14 +17,13 @@ use Rattle.bits.specs.definitions.Words.{wordOf, wordAt, halfOf, rowOf}
 use Rattle.bits.proofs.Table.{every, table-rule}
 use Rattle.bits.proofs.Tabulate.{length-tabulate, getD-tabulate, is-tabulate}
 use Rattle.bits.proofs.Value.{value-cong, value-lt, bit-lt, bit-number, number-bits}
-use Rattle.bits.proofs.Count.{count-none}
 use Rattle.bits.proofs.Fields.{bitAt-lt, bitAt-byte}
 use Rattle.bits.proofs.Words.{word-lt, row-at, row-cong}
 use Rattle.shuffle.specs.definitions.Shuffle.{place, unplace}
 use Rattle.symbols.specs.definitions.Mapping.{laneOf, placeOf, payloadAt, symbolOf, bitIn}
 use Rattle.pilots.specs.definitions.Table5.{pilots}
-use Rattle.pilots.specs.definitions.Pilots.{met, wrongPilots, lockLimit, locks}
-use Rattle.pilots.proofs.Lock.{met-there}
+use Rattle.pilots.specs.definitions.Pilots.{locks}
+use Rattle.pilots.proofs.Lock.{pilots-lock}
 use Rattle.symbols.specs.definitions.Frame.{carriedBit, payload, symbolAt, frameOf, placedBit, arrived, wordsOf}
 use Rattle.symbols.specs.statements.Frame.{FramePlaces, WordsBack, FrameBack}
 use Rattle.shuffle.proofs.Places.{unplace-place, place-unplace, place-lt, unplace-lt}
@@ -98,15 +97,7 @@ frame-bytes s = record { byte = λ t. at t (decLt t 6144) (ℕ-discrete (t % 64)
         (ltb→lt (getD pilots (t / 64) 0) 256 (table-rule (λ _ b. ltb b 256) pilots pilots-test (t / 64) (rw pilots-length (omega arith))))
     at t (yes h) (no e) = rw (getD-tabulate 6144 (symbolAt s) t 0 h, ne-eqb (t % 64) 0 e) (value-lt 2 8 _ (λ i _. carried-lt s _ _ i))
 
--- a frame with the right pilots locks
-pub pilots-lock : (f : List ℕ) → length f ≡ 6144 → ((k : ℕ) → k < 96 → getD f (64 * k) 0 ≡ getD pilots k 0) → locks f 0 ≡ true
-unfolding locks wrongPilots
-pilots-lock f long there =
-    ap (λ (n : ℕ). ltb n lockLimit) (count-none (λ i. not (met f 0 i)) 96 (λ i h. ap not (pilot-met i h)))
-  where
-    pilot-met : (i : ℕ) → i < 96 → met f 0 i ≡ true
-    pilot-met i h = met-there f 0 i (rw long (omega arith)) (ap (λ (n : ℕ). getD f n 0) (zero-add (64 * i)) ∙ there i h)
-
+-- so that it locks
 pub frame-locks : (s : List ℕ) → locks (frameOf s) 0 ≡ true
 frame-locks s = pilots-lock (frameOf s) (frame-length s) (frame-pilot s)
 

@@ -1,5 +1,5 @@
 -- Lists by their elements, numbers by their digits, bytes by their bits: the earliest bit stands in the top bit of a byte (01, one frame in
--- numbers). And counting, and the first of a list.
+-- numbers). And counting, the smallest number and the first of a list that pass a test.
 -- Assumes nothing.
 use mathlib.Core.Bool.{Bool, cond}
 use mathlib.Core.List.{List, [], _∷_, _++_}
@@ -53,6 +53,11 @@ copied a b = take (length b) a ++ drop (length a) b
 unfoldable pub count : (ℕ → Bool) → ℕ → ℕ
 count p zero = 0
 count p (suc n) = cond (p n) 1 0 + count p n
+
+-- the smallest i below n that passes the test; n where none does
+unfoldable pub least : (ℕ → Bool) → ℕ → ℕ
+least p zero = 0
+least p (suc n) = cond (p 0) 0 (suc (least (λ i. p (suc i)) n))
 
 -- the first of a list that passes the test; else another
 unfoldable pub first : {A : Type 0} → (A → Bool) → List A → A → A

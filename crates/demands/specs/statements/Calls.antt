@@ -1,7 +1,8 @@
--- The demands for a host in C, on one page: the three ways in which its calls come to a verdict. `proofs/Theorems` has a value of it.
+-- The demands for a host in C, on one page: the three ways in which its calls come to a verdict, and the search. `proofs/Theorems` has a value of it.
 -- Assumes nothing.
 use Rattle.demands.specs.statements.Host.{ExaminedVerdict, ExaminedReport, HostedRun, HostedVerdict, HostedReport, HostedExists, NothingDropped}
 use Rattle.demands.specs.statements.Host.{StoppedVerdict, OwnVerdict, ToldStopped}
+use Rattle.demands.specs.statements.Hunt.{HuntedAlike}
 
 pub record Calls : Type 0 where
   -- a capture in memory, in one call: its verdict, and its report
@@ -18,3 +19,5 @@ pub record Calls : Type 0 where
   -- receiving, the account and the verdict called by the host itself: the verdict is that of the capture's run; and 0 where the host says that it was stopped
   pub ownVerdict : OwnVerdict
   pub toldStopped : ToldStopped
+  -- a search fed piece by piece says what the search over the whole run says
+  pub huntedAlike : HuntedAlike

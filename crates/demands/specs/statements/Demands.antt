@@ -9,6 +9,8 @@ use Rattle.traffic.specs.statements.Traffic.{FrameFrom, OneAfterTheOther, OneSe
 use Rattle.traffic.specs.statements.Checker.{Compared, CountsExactly, ChecksExist}
 use Rattle.traffic.specs.statements.Refusals.{FrameRefusals, NextRefusals, CheckRefusals}
 use Rattle.traffic.specs.statements.Figures.{TrafficFigures}
+use Rattle.hunt.specs.statements.Hunt.{FoundExactly, NoneExactly, ShortExactly, NoOther, FoundByThen, HoweverCut, AllFed, AllTaken, FrameKept}
+use Rattle.hunt.specs.statements.Hunt.{FeedRefusals, AnswerExactly, CanBeFed}
 use Rattle.framing.specs.statements.Places.{BasePlaces}
 use Rattle.framing.specs.statements.Stream.{BlockRule}
 use Rattle.framing.specs.statements.Figures.{BenchFigures}
@@ -25,6 +27,7 @@ use Rattle.demands.specs.statements.Verdict.{NeverPass, OneNotMeasured, 
 use Rattle.demands.specs.statements.ReedSolomon.{SpansExist, SpansLabel, CarriesExactly, ReedSolomonBound, FourPairs, OtherPlaces, OtherPairs}
 use Rattle.demands.specs.statements.Traffic.{TrafficReturns, TrafficHit, WrongTest, TrafficSpeaks}
 use Rattle.demands.specs.statements.Fill.{FillBits, FillWords, TalliedExactly}
+use Rattle.demands.specs.statements.Hunt.{SentFound, HitFound, AcceptedFound, FoundAccepted}
 
 -- the demands over words, streams and captures, sentence by sentence
 pub record Demands : Type 0 where
@@ -112,3 +115,23 @@ pub record Demands : Type 0 where
   pub addsDue : AddsDue
   pub fewerThanTwo : FewerThanTwo
   pub oneNotMeasured : OneNotMeasured
+  -- 02, request 04: what a search says of a whole run: an offset, none or 13, exactly; and that a frame which locks is found, so one that was sent, or
+  -- damaged in fewer pilots than refuse it, and one that receiving accepts; and that receiving accepts what is found
+  pub foundExactly : FoundExactly
+  pub noneExactly : NoneExactly
+  pub shortExactly : ShortExactly
+  pub noOther : NoOther
+  pub foundByThen : FoundByThen
+  pub sentFound : SentFound
+  pub hitFound : HitFound
+  pub acceptedFound : AcceptedFound
+  pub foundAccepted : FoundAccepted
+  -- 02, request 04: the same however the run is cut, and that it can be; what is taken in and kept; what a piece is refused by, number by number,
+  -- and what is answered, whatever is stored
+  pub howeverCut : HoweverCut
+  pub allFed : AllFed
+  pub canBeFed : CanBeFed
+  pub allTaken : AllTaken
+  pub frameKept : FrameKept
+  pub feedRefusals : FeedRefusals
+  pub answerExactly : AnswerExactly

@@ -1,11 +1,11 @@
--- Pilots and lock (01, pilots and refusal 5; 000, 7.1, table 4; table 5 is in Table5).
+-- Pilots and lock (01, pilots and refusal 5; 000, 7.1, table 4; table 5 is in Table5), and where a string first locks (02, request 04).
 -- Assumes nothing.
 use mathlib.Core.Bool.{Bool, not, _&&_}
 use mathlib.Core.List.{List}
 use Prim.Native.Nat.{ℕ, zero, suc, _+_, _*_, _-_, _/_, _%_, _^_}
 use lib.ListN.{length, getD}
 use lib.Dec.{eqb, ltb}
-use Rattle.bits.specs.definitions.Bits.{count}
+use Rattle.bits.specs.definitions.Bits.{tabulate, count, least}
 use Rattle.pilots.specs.definitions.Table5.{pilots}
 
 -- one step of the register of table 4: nine bits, the lowest leaves, and x^9 + x^8 + x^5 + x^4 + 1 gives what enters on top
@@ -44,3 +44,24 @@ lockLimit = 25
 -- the string s locks from offset o on
 unfoldable pub locks : List ℕ → ℕ → Bool
 locks s o = ltb (wrongPilots s o) lockLimit
+
+-- how many symbols a frame has (01, one frame in numbers)
+abbrev pub frameSymbols : ℕ
+frameSymbols = 6144
+
+-- how many offsets of the string s have a whole frame behind them: all those below this number
+abbrev pub offsets : List ℕ → ℕ
+offsets s = suc (length s) - frameSymbols
+
+-- the smallest of these at which s locks; their number, where it locks at none
+unfoldable pub firstLock : List ℕ → ℕ
+firstLock s = least (locks s) (offsets s)
+
+-- a column is 96 symbols that stood 64 apart, kept side by side. A frame whose pilots' symbols they are, the first at row `first`, the others behind it and
+-- round; each stands 64 times in it
+unfoldable pub columnFrame : List ℕ → ℕ → List ℕ
+columnFrame column first = tabulate frameSymbols (λ j. getD column ((first + j / 64) % 96) 0)
+
+-- they are 96, and such a frame locks
+unfoldable pub lockedColumn : List ℕ → ℕ → Bool
+lockedColumn column first = eqb (length column) 96 && locks (columnFrame column first) 0

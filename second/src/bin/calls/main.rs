@@ -4,12 +4,13 @@
 //!
 //! What is written whatever the count: 01's run figures with every pair and triple of flips, every
 //! refusal and those that can occur together, entries, records, places, runs, reports, whole
-//! captures and test traffic. Then so many frames of each direction.
+//! captures, test traffic and searches for a frame's start. Then so many frames of each direction.
 
 mod accounts;
 mod examined;
 mod figures;
 mod frames;
+mod hunt;
 mod lengths;
 mod out;
 mod records;
@@ -39,6 +40,7 @@ fn write_calls(count: u64, seed: u64) -> io::Result<()> {
     reports::write(calls, random)?;
     examined::write(calls, random)?;
     traffic::write(calls, random)?;
+    hunt::write(calls, random)?;
     frames::write(calls, random, count)?;
     calls.end()
 }

@@ -3,6 +3,7 @@
 
 use second::account::{enter_flags, lose, numbers, opened, verdict, Account};
 use second::capture::{read, wanted, Record};
+use second::hunt::{answer, by_rule, feed, open, Found, State};
 use second::kept::Kept;
 use second::receive::receive;
 use second::run::{examine, examine_verdict};
@@ -31,6 +32,10 @@ const TRAFFIC_STATE: u8 = 15;
 const TRAFFIC_FRAME: u8 = 16;
 const TRAFFIC_NEXT: u8 = 17;
 const TRAFFIC_CHECK: u8 = 18;
+const HUNT: u8 = 19;
+const HUNT_OPEN: u8 = 20;
+const HUNT_FEED: u8 = 21;
+const HUNT_ANSWER: u8 = 22;
 
 pub struct Calls<W: Write> {
     out: W,
@@ -104,6 +109,17 @@ impl<W: Write> Calls<W> {
             self.u32(number)?;
         }
         self.account(&run.account)
+    }
+
+    fn found(&mut self, found: &Found) -> io::Result<()> {
+        self.u32(found.refusal)?;
+        self.u32(found.found)?;
+        self.u64(found.offset)
+    }
+
+    fn search(&mut self, state: &State) -> io::Result<()> {
+        self.u64(state.taken)?;
+        self.u64(state.found)
     }
 
     pub fn send(&mut self, input: &[u8], store: &mut [u8], output: &mut [u8]) -> io::Result<u32> {
@@ -334,5 +350,45 @@ impl<W: Write> Calls<W> {
             self.u32(count)?;
         }
         Ok(refusal)
+    }
+
+    pub fn hunt(&mut self, run: &[u8]) -> io::Result<Found> {
+        self.begin(HUNT)?;
+        self.buffer(run)?;
+        let found = by_rule(run);
+        self.found(&found)?;
+        Ok(found)
+    }
+
+    pub fn hunt_open(&mut self, state: &mut State) -> io::Result<()> {
+        self.begin(HUNT_OPEN)?;
+        self.search(state)?;
+        *state = open();
+        self.search(state)
+    }
+
+    pub fn hunt_feed(
+        &mut self,
+        state: &mut State,
+        kept: &mut [u8],
+        piece: &[u8],
+    ) -> io::Result<u32> {
+        self.begin(HUNT_FEED)?;
+        self.search(state)?;
+        self.buffer(kept)?;
+        self.buffer(piece)?;
+        let refusal = feed(state, kept, piece);
+        self.u32(refusal)?;
+        self.search(state)?;
+        self.out.write_all(kept)?;
+        Ok(refusal)
+    }
+
+    pub fn hunt_answer(&mut self, state: &State) -> io::Result<Found> {
+        self.begin(HUNT_ANSWER)?;
+        self.search(state)?;
+        let found = answer(state);
+        self.found(&found)?;
+        Ok(found)
     }
 }

@@ -1,0 +1,9 @@
+pub mod Finding
+pub mod Taking
+pub mod Feeding
+pub mod Exactly
+pub mod Cut
+pub mod Runs
+pub mod Refusals
+pub mod Determined
+pub mod Empty
