@@ -65,7 +65,11 @@ module _ (s : List ℕ) where
       go (yes h) d = short h (find-short s h)
       go (no h) (yes l) =
           at (firstLock s)
-          (record { fits = omega arith; locked = least-passes (locks s) (offsets s) l; first = least-fails (locks s) (offsets s) })
+          (record {
+            fits = omega arith;
+            locked = least-passes (locks s) (offsets s) l;
+            first = λ p b. let before : p < firstLock s = omega arith in least-fails (locks s) (offsets s) p before;
+          })
           (find-at s (omega arith) l)
       go (no h) (no l) =
           none (omega arith) (λ o f. least-fails (locks s) (offsets s) o (omega arith)) (find-none s (omega arith) (omega arith))
