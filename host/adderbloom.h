@@ -15,10 +15,10 @@
 
 /* The version of this header and of the archive that comes with it. Any change of what a host was told raises the first number, an addition the second,
  * everything else the third. */
-#define LR800_VERSION_MAJOR 4
-#define LR800_VERSION_MINOR 0
+#define LR800_VERSION_MAJOR 3
+#define LR800_VERSION_MINOR 1
 #define LR800_VERSION_PATCH 0
-#define LR800_VERSION "4.0.0"
+#define LR800_VERSION "3.1.0"
 
 #ifdef __cplusplus
 extern "C" {
@@ -37,7 +37,7 @@ enum {
   LR800_WRONG_STORE_LENGTH = 2,   /* the store is not LR800_STORE bytes long; what a search keeps (lr800_hunt_feed) is not LR800_HUNT_KEPT symbols */
   LR800_WRONG_OUTPUT_LENGTH = 3,  /* output is not LR800_FRAME bytes long (sending), LR800_LANES (receiving, test traffic), or not LR800_COUNTS counts */
   LR800_WRONG_FLAGS_LENGTH = 4,   /* there are not LR800_FLAGS flag bytes */
-  LR800_NO_LOCK = 5,              /* no lock: of the 96 pilots 13 or more differ in their X half (the byte's upper four bits), or 13 or more in their Y half */
+  LR800_NO_LOCK = 5,              /* no lock: 25 or more of the 96 pilot bytes differ */
   /* by lr800_read, in what it returns, and lr800_run_step */
   LR800_CUT_SHORT = 6,            /* a record is cut short */
   LR800_WRONG_RECORD_LENGTH = 7,  /* its length is not 14 or 6,150 */
@@ -63,7 +63,7 @@ static inline const char *lr800_refusal_text(uint32_t number) {
   case LR800_WRONG_STORE_LENGTH: return "the store has a wrong length";
   case LR800_WRONG_OUTPUT_LENGTH: return "the output has a wrong length";
   case LR800_WRONG_FLAGS_LENGTH: return "the flags have a wrong length";
-  case LR800_NO_LOCK: return "no lock: 13 or more of the 96 pilots differ in X, or 13 or more in Y";
+  case LR800_NO_LOCK: return "no lock: 25 or more of the 96 pilots differ";
   case LR800_CUT_SHORT: return "the record is cut short";
   case LR800_WRONG_RECORD_LENGTH: return "the record's length is not 14 or 6,150";
   case LR800_WRONG_RECORD_VERSION: return "the record's version is not 1";

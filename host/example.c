@@ -15,7 +15,7 @@ enum {
     LANES = 32, LANE_BYTES = LR800_LANES / LANES,
     BEHIND = 180,                            /* bytes by which a lane comes back later: 36 blocks of 40 bits */
     FILL = 448,                              /* words that carry the zeros of the sender's store: all of the first frame, 64 of the next */
-    PILOTS_APART = 64, WRONG_PILOTS = 13,    /* a pilot is the first symbol of each 64; so many wrong in one polarisation are no lock */
+    PILOTS_APART = 64, WRONG_PILOTS = 25,    /* a pilot is the first symbol of each 64; so many wrong ones are no lock */
     INFORMATION = 110,                       /* the first bits of a word; those behind them are parity, which no lane has */
     HIT = 5,                                 /* the frame of test traffic that has words which cannot be mended */
     TRAFFIC_BITS = 42240,                    /* of a frame of test traffic */
@@ -84,7 +84,7 @@ static uint32_t damage(uint8_t *frame, uint8_t *flips, int words, int count) {
 }
 
 static void spoil_pilots(uint8_t *frame) {
-    for (int n = 0; n < WRONG_PILOTS; n++) frame[PILOTS_APART * n] ^= 0xF0; /* X alone */
+    for (int n = 0; n < WRONG_PILOTS; n++) frame[PILOTS_APART * n] ^= 0xFF;
 }
 
 /* The line: every frame has words with one flip and with two, every tenth some with more, and the lost one has wrong pilots. */

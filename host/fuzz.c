@@ -14,7 +14,7 @@
 #include <string.h>
 #include <sys/mman.h>
 
-enum { NUMBERS = 19, CONTROL = 8 * NUMBERS, PAGE = 4096, GUARD = 0xA5, PILOTS = 96, NO_LOCK = 13, LONGEST = 60000 };
+enum { NUMBERS = 19, CONTROL = 8 * NUMBERS, PAGE = 4096, GUARD = 0xA5, PILOTS = 96, NO_LOCK = 25, LONGEST = 60000 };
 enum { FILL = 448 }; /* words that still carry the zeros of the sender's store: all of the frame at the start number, and 64 of the next */
 
 /* the control numbers: the first byte by byte, the others whole; the account's seven stand in its own order, the first its two numbers of a frame: the start
@@ -148,18 +148,6 @@ static void learn_pilots(void) {
     for (int i = 0; i < PILOTS; i++) pilots[i] = frame[64 * i];
 }
 
-/* how many pilots differ in a half, and whether that is a lock */
-typedef struct { uint32_t x, y; } wrong_halves;
-
-static void count_wrong(wrong_halves *wrong, uint8_t symbol, uint8_t pilot) {
-    wrong->x += symbol >> 4 != pilot >> 4;
-    wrong->y += (symbol & 15) != (pilot & 15);
-}
-
-static int locked(wrong_halves wrong) {
-    return wrong.x < NO_LOCK && wrong.y < NO_LOCK;
-}
-
 static uint32_t first_wrong(const size_t *lengths, const size_t *right, uint32_t count) {
     for (uint32_t i = 0; i < count; i++)
         if (lengths[i] != right[i]) return i + 1;
@@ -177,10 +165,10 @@ static void check_receive(const uint8_t *from, size_t from_length) {
     if (n[0]) memcpy(input_before, in, n[0]);
     expected = first_wrong(n, right, 4);
     if (expected == 0) {
-        wrong_halves wrong = {0, 0};
-        for (int i = 0; i < PILOTS; i++) count_wrong(&wrong, in[64 * i], pilots[i]);
-        mark(PILOTS_WRONG, (wrong.x + wrong.y) / 4);
-        if (!locked(wrong)) expected = 5;
+        uint32_t wrong = 0;
+        for (int i = 0; i < PILOTS; i++) wrong += in[64 * i] != pilots[i];
+        mark(PILOTS_WRONG, wrong / 2);
+        if (wrong >= NO_LOCK) expected = 5;
     }
     /* twice, over other bytes: what stands in output and flags must not matter */
     for (int again = 0; again < 2; again++) {
@@ -669,17 +657,17 @@ static void check_traffic(void) {
 
 /* whether a frame's symbols lock */
 static int locks(const uint8_t *symbols) {
-    wrong_halves wrong = {0, 0};
-    for (size_t i = 0; i < PILOTS && locked(wrong); i++) count_wrong(&wrong, symbols[64 * i], pilots[i]);
-    return locked(wrong);
+    uint32_t wrong = 0;
+    for (size_t i = 0; i < PILOTS && wrong < NO_LOCK; i++) wrong += symbols[64 * i] != pilots[i];
+    return wrong < NO_LOCK;
 }
 
 /* whether the kept symbols lock, the oldest first, where so many were taken in: at least a frame's. The oldest is counted from the frame's start, since
  * counted on from the youngest it may be beyond 2^64, which is no multiple of LR800_HUNT_KEPT */
 static int kept_lock(const uint8_t *kept, uint64_t taken) {
-    wrong_halves wrong = {0, 0};
-    for (uint64_t i = 0; i < PILOTS && locked(wrong); i++) count_wrong(&wrong, kept[lr800_hunt_place(taken - LR800_FRAME + 64 * i)], pilots[i]);
-    return locked(wrong);
+    uint32_t wrong = 0;
+    for (uint64_t i = 0; i < PILOTS && wrong < NO_LOCK; i++) wrong += kept[lr800_hunt_place(taken - LR800_FRAME + 64 * i)] != pilots[i];
+    return wrong < NO_LOCK;
 }
 
 static int same_found(lr800_found a, lr800_found b) {
@@ -957,13 +945,10 @@ size_t LLVMFuzzerCustomMutator(uint8_t *data, size_t size, size_t limit, unsigne
     case 5: /* an order's figures */
         if (places[0] + LR800_ORDER_BYTES <= length) put_four(bytes + 10 + 4 * below(2), (uint32_t)(below(2) ? count - 1 : telling()));
         return size;
-    case 6: { /* pilots, in X alone, in Y alone or in both */
-        uint32_t half = below(3);
+    case 6: /* pilots */
         for (uint32_t n = below(30); n; n--)
-            if (end - place == LR800_FRAME_BYTES)
-                bytes[place + 10 + 64 * below(PILOTS)] ^= (uint8_t)(half == 0 ? 16 * (1 + below(15)) : half == 1 ? 1 + below(15) : 1 + below(255));
+            if (end - place == LR800_FRAME_BYTES) bytes[place + 10 + 64 * below(PILOTS)] ^= (uint8_t)(1 + below(255));
         return size;
-    }
     case 7: /* symbols: a few bits, or very many */
         for (uint32_t n = below(2) ? below(8) : below(3000); n; n--)
             if (end - place == LR800_FRAME_BYTES) bytes[place + 10 + below(LR800_FRAME)] ^= (uint8_t)(1 << below(8));

@@ -8,8 +8,7 @@ use second::lanes::{deinterleave, interleave, lanes_of_words, permute, words, EX
 use second::receive::receive_with;
 use second::run::{examine_verdict, Run};
 use second::send::send;
-use second::spoil::{spoil_any, MOST_WITH_LOCK};
-use second::symbols::{bit_place, frame, frame_words, locks, FRAME_SYMBOLS};
+use second::symbols::{bit_place, frame, frame_words, locks, FRAME_SYMBOLS, NO_LOCK, PILOT_COUNT, ROW_SYMBOLS};
 use second::traffic;
 use second::word::{encode_frame, Decoder, FRAME_WORDS};
 use second::xorshift::Xorshift;
@@ -185,9 +184,11 @@ fn compare_hunt(random: &mut Xorshift, frames: &[Frame]) -> usize {
     let mut found = 0;
     for frame in frames {
         let mut frame = *frame;
-        // the last two have no lock, each by one half alone
-        let wrong = random.pick(&[MOST_WITH_LOCK, [0, 0, 12], [13, 0, 0], [0, 13, 0]]);
-        spoil_any(random, &mut frame, wrong);
+        let wrong = NO_LOCK - 2 + random.below(4) as usize;
+        for (n, number) in random.choose(PILOT_COUNT, wrong).into_iter().enumerate() {
+            // in turn in the X half alone and in the Y half alone
+            frame[ROW_SYMBOLS * number] ^= [0x10, 0x01][n % 2];
+        }
         let [before, behind, cut] = [2 * FRAME_SYMBOLS, FRAME_SYMBOLS, 3].map(|most| random.below(most as u64) as usize);
         let mut run = [&random.bytes(before)[..], &frame, &random.bytes(behind)].concat();
         run.truncate(run.len() - cut);

@@ -7,9 +7,7 @@
 //! A search in pieces keeps the last symbols of as long as a frame, those a multiple of 64 apart,
 //! among which a frame has its pilots, side by side, and takes in no more once a start is found.
 
-use crate::symbols::{
-    locks, locks_by_rule, FRAME_SYMBOLS, NO_LOCK_BYTES, PILOTS, PILOT_COUNT, ROW_SYMBOLS,
-};
+use crate::symbols::{locks, FRAME_SYMBOLS, NO_LOCK, PILOTS, PILOT_COUNT, ROW_SYMBOLS};
 
 type Frame = [u8; FRAME_SYMBOLS];
 
@@ -59,8 +57,8 @@ pub fn hunt(run: &[u8]) -> Found {
 /// So many neighbouring offsets are looked at together.
 const TOGETHER: usize = 128;
 
-/// So many pilots more are compared there than, if all are wrong in whichever half, rule an offset
-/// out: few stay open then.
+/// So many pilots more are compared there than, if all are wrong, rule an offset out: few stay open
+/// then.
 const SPARE: usize = 7;
 
 /// A loop without a jump compares a pilot at neighbouring offsets, and is compiled to many at once:
@@ -69,7 +67,7 @@ fn first_start(run: &[u8]) -> Option<usize> {
     let mut offset = 0;
     while run.len() - offset >= FRAME_SYMBOLS + TOGETHER - 1 {
         let mut right = [0u8; TOGETHER];
-        for (row, pilot) in PILOTS[..NO_LOCK_BYTES + SPARE].iter().enumerate() {
+        for (row, pilot) in PILOTS[..NO_LOCK + SPARE].iter().enumerate() {
             let symbols = &run[offset + ROW_SYMBOLS * row..][..TOGETHER];
             for (right, symbol) in right.iter_mut().zip(symbols) {
                 *right += u8::from(symbol == pilot);
@@ -96,18 +94,18 @@ pub fn hunt_by_offset(run: &[u8]) -> Found {
 }
 
 /// Counting stops at the pilot with which so many are wrong that there is no lock. That is none
-/// before the last of the first NO_LOCK_BYTES, so those are counted without a look at it.
+/// before the last of the first NO_LOCK, so those are counted without a look at it.
 fn first_start_by_offset(run: &[u8]) -> Option<usize> {
     run.windows(FRAME_SYMBOLS).position(|frame| {
         let frame: &Frame = frame.try_into().expect("a frame");
         let differs = |number: usize| usize::from(frame[ROW_SYMBOLS * number] != PILOTS[number]);
-        let mut wrong: usize = (0..NO_LOCK_BYTES).map(differs).sum();
-        let mut number = NO_LOCK_BYTES;
-        while wrong < NO_LOCK_BYTES && number < PILOT_COUNT {
+        let mut wrong: usize = (0..NO_LOCK).map(differs).sum();
+        let mut number = NO_LOCK;
+        while wrong < NO_LOCK && number < PILOT_COUNT {
             wrong += differs(number);
             number += 1;
         }
-        wrong < NO_LOCK_BYTES && locks(frame)
+        wrong < NO_LOCK && locks(frame)
     })
 }
 
@@ -117,7 +115,8 @@ pub fn by_rule(run: &[u8]) -> Found {
         return SHORT;
     }
     for offset in 0..=run.len() - 6_144 {
-        if locks_by_rule(&run[offset..offset + 6_144]) {
+        let frame = run[offset..offset + 6_144].try_into().expect("a frame");
+        if locks(frame) {
             return found_at(offset as u64);
         }
     }
@@ -158,7 +157,7 @@ pub fn feed(state: &mut State, kept: &mut [u8], piece: &[u8]) -> u32 {
         }
         kept[place(state.taken)] = symbol;
         state.taken += 1;
-        if state.taken >= 6_144 && locks_by_rule(&from_oldest(kept, state.taken)) {
+        if state.taken >= 6_144 && locks(&from_oldest(kept, state.taken)) {
             state.found = 1;
         }
     }
@@ -234,7 +233,7 @@ fn may_lock(kept: &Frame, column: usize, row: usize) -> bool {
     let pairs = symbols.iter().zip(pilots);
     let right: u8 = pairs.map(|(a, b)| u8::from(a == b)).sum();
     // With no more than so many right, so many are wrong that there is no lock.
-    usize::from(right) > LOOKED_AT - NO_LOCK_BYTES
+    usize::from(right) > LOOKED_AT - NO_LOCK
 }
 
 /// The whole rule, which is seldom asked: apart from the loop, so that it costs nothing there.
@@ -249,9 +248,6 @@ mod tests {
     use super::*;
     use crate::receive::receive;
     use crate::send::send;
-    use crate::spoil::{
-        lock_with, spoil, spoil_any, Wrong, ALL_WRONG, MOST_WITH_LOCK, NONE_WRONG, ONE_TOO_MANY,
-    };
     use crate::xorshift::Xorshift;
 
     const WAYS: [fn(&[u8]) -> Found; 3] = [hunt, hunt_by_offset, by_rule];
@@ -270,20 +266,20 @@ mod tests {
         frame
     }
 
+    /// Makes so many pilots wrong, in turn in their X half alone and in their Y half alone.
+    fn spoil(random: &mut Xorshift, frame: &mut [u8], count: usize) {
+        for (n, number) in random.choose(96, count).into_iter().enumerate() {
+            let wrong = 1 + random.below(15) as u8;
+            frame[64 * number] ^= wrong << (4 * (n % 2));
+        }
+    }
+
     /// Pilots alone, so many of them wrong, from the first symbol on.
-    fn plant(random: &mut Xorshift, run: &mut [u8], wrong: Wrong) {
+    fn plant(random: &mut Xorshift, run: &mut [u8], wrong: usize) {
         for (number, pilot) in PILOTS.into_iter().enumerate() {
             run[64 * number] = pilot;
         }
-        spoil_any(random, run, wrong);
-    }
-
-    fn start_if(found: bool, offset: usize) -> Found {
-        if found {
-            found_at(offset as u64)
-        } else {
-            NONE
-        }
+        spoil(random, run, wrong);
     }
 
     /// Random symbols of this length with these frames, each from its offset on.
@@ -351,47 +347,39 @@ mod tests {
         }
     }
 
-    /// How many pilots are wrong: up to the limit in each half; beyond it, but with so few wrong
-    /// bytes that those alone rule no offset out; and more.
-    #[rustfmt::skip]
-    const ABOUT_THE_LIMIT: [Wrong; 25] = [
-        NONE_WRONG, [1, 0, 0], [0, 1, 0], [0, 0, 1], [11, 11, 0],
-        MOST_WITH_LOCK, [12, 0, 0], [0, 12, 0], [0, 0, 12], [6, 5, 6],
-        [13, 0, 0], [0, 13, 0], [0, 0, 13], [12, 0, 1], [0, 12, 1],
-        [24, 0, 0], [0, 24, 0], [0, 0, 24], [12, 11, 1], [7, 6, 6],
-        [13, 12, 0], [12, 13, 0], [96, 0, 0], [0, 96, 0], ALL_WRONG,
-    ];
-
     #[test]
     fn the_first_frame_that_locks_is_found() {
         let mut random = Xorshift::new(123);
-        let mut seen = [0; 2];
         for offset in [0, 7, 128] {
-            for wrong in ABOUT_THE_LIMIT {
+            for wrong in [0, 1, 23, 24, 25, 26, 48, 96] {
                 let (mut one, mut other) = (sent(&mut random), sent(&mut random));
-                spoil_any(&mut random, &mut one, wrong);
-                spoil_any(&mut random, &mut other, MOST_WITH_LOCK);
+                spoil(&mut random, &mut one, wrong);
+                spoil(&mut random, &mut other, 24);
                 let run = [random.bytes(offset), one.clone(), other].concat();
-                let lock = lock_with(wrong);
-                let start = if lock { offset } else { offset + 6_144 };
-                assert_eq!(hunted(&run), found_at(start as u64), "{wrong:?}");
-                assert_eq!(hunted(&run[..offset + 6_144]), start_if(lock, offset));
-                seen[usize::from(lock)] += 1;
+                let start = if wrong < 25 { offset } else { offset + 6_144 };
+                assert_eq!(hunted(&run), found_at(start as u64));
+                let run = &run[..offset + 6_144];
+                let alone = if wrong < 25 {
+                    found_at(start as u64)
+                } else {
+                    NONE
+                };
+                assert_eq!(hunted(run), alone);
             }
         }
-        assert_eq!(seen, [3 * 15, 3 * 10]);
     }
 
     #[test]
     fn wrong_pilots_may_stand_together_anywhere() {
         let mut random = Xorshift::new(135);
-        for wrong in [MOST_WITH_LOCK, [0, 0, 12]].into_iter().chain(ONE_TOO_MANY) {
-            let count: usize = wrong.iter().sum();
-            for first in 0..=96 - count {
+        for first in 0..=71 {
+            for count in [24, 25] {
                 let mut frame = sent(&mut random);
-                spoil(&mut random, &mut frame, first..first + count, wrong);
+                for number in first..first + count {
+                    frame[64 * number] ^= [0x10, 0x01][number % 2];
+                }
                 let run = run_with(&mut random, 6_444, &[(100, &frame)]);
-                assert_eq!(hunted(&run), start_if(lock_with(wrong), 100));
+                assert_eq!(hunted(&run), if count < 25 { found_at(100) } else { NONE });
             }
         }
     }
@@ -402,7 +390,7 @@ mod tests {
         let mut seen = [0; 2];
         for count in 0..400 {
             let mut frame = sent(&mut random);
-            for number in random.choose(96, count % 30) {
+            for number in random.choose(96, count % 40) {
                 let wrong = [0x0F, 0xF0, 0xFF][random.below(3) as usize];
                 frame[64 * number] ^= wrong & random.next_u64() as u8;
             }
@@ -423,11 +411,11 @@ mod tests {
             let offset = 6_200;
             let frame = sent(&mut random);
             let right = run_with(&mut random, 15_000, &[(offset, &frame)]);
-            for wrong in ABOUT_THE_LIMIT {
+            for wrong in [0, 24, 25] {
                 let mut run = right.clone();
                 plant(&mut random, &mut run[offset - ahead..], wrong);
-                let ahead = if lock_with(wrong) { ahead } else { 0 };
-                assert_eq!(hunted(&run), found_at((offset - ahead) as u64));
+                let start = if wrong < 25 { offset - ahead } else { offset };
+                assert_eq!(hunted(&run), found_at(start as u64));
             }
         }
     }
@@ -474,11 +462,7 @@ mod tests {
             let mut run = random.bytes(6_144 + 300);
             for column in 0..64 {
                 let offset = column + 64 * random.below(4) as usize;
-                // Mostly too many in one half alone.
-                let most = random.pick(&[2, 12, 30, 30]);
-                let [x, y] = [0; 2].map(|_| 12 + random.below(most) as usize);
-                let both = random.below(13) as usize;
-                let wrong = [x - both, y - both, both + random.below(4) as usize];
+                let wrong = 24 + random.below(60) as usize;
                 plant(&mut random, &mut run[offset..], wrong);
             }
             found += hunted(&run).found;
@@ -616,8 +600,8 @@ mod tests {
             if round % 3 != 0 {
                 // It may begin before the run, or not be there whole.
                 let mut frame = sent(&mut random);
-                let wrong = ABOUT_THE_LIMIT[round % 25];
-                spoil_any(&mut random, &mut frame, wrong);
+                let wrong = [0, 24, 25][round % 9 / 3];
+                spoil(&mut random, &mut frame, wrong);
                 let offset = random.below(length as u64) as usize;
                 let there = frame.len().min(length - offset);
                 run[offset..offset + there].copy_from_slice(&frame[..there]);
@@ -696,7 +680,7 @@ mod tests {
         taken.extend((0..20).map(|_| random.next_u64() >> random.below(60)));
         for taken in taken {
             let mut frame = sent(&mut random);
-            spoil_any(&mut random, &mut frame, MOST_WITH_LOCK);
+            spoil(&mut random, &mut frame, 24);
             let right = frame[6_143];
             for (symbol, lock) in [(right, true), (right ^ 1, true), (right, false)] {
                 if !lock {
@@ -751,19 +735,15 @@ mod tests {
     #[test]
     fn wrong_pilots_may_stand_together_in_any_rows() {
         let mut random = Xorshift::new(137);
-        let tried: Vec<Wrong> = [MOST_WITH_LOCK, [0, 0, 12]]
-            .into_iter()
-            .chain(ONE_TOO_MANY)
-            .collect();
         for row in 0..96 {
             let taken = 6_144 * random.below(1_000) + 6_144 + 64 * row + random.below(64);
-            let clean = sent(&mut random);
+            let frame = sent(&mut random);
             for first in 0..=71 {
-                // One that locks, and one that does not.
-                for wrong in [random.pick(&tried[..2]), random.pick(&tried[2..])] {
-                    let mut frame = clean.clone();
-                    let count: usize = wrong.iter().sum();
-                    spoil(&mut random, &mut frame, first..first + count, wrong);
+                for count in [24, 25] {
+                    let mut frame = frame.clone();
+                    for number in first..first + count {
+                        frame[64 * number] ^= [0x10, 0x01][number % 2];
+                    }
                     let kept = one_before(&frame, taken - 1, 0);
                     for way in FEEDS {
                         let (mut kept, found) = (kept.clone(), 0);
@@ -772,7 +752,7 @@ mod tests {
                             found,
                         };
                         assert_eq!(way(&mut state, &mut kept, &frame[6_143..]), 0);
-                        let found = u64::from(lock_with(wrong));
+                        let found = u64::from(count < 25);
                         assert_eq!(state, State { taken, found });
                         assert!(kept == kept_from(taken, &frame));
                     }

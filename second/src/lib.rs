@@ -8,7 +8,6 @@ pub mod lanes;
 pub mod receive;
 pub mod run;
 pub mod send;
-pub mod spoil;
 pub mod symbols;
 pub mod tables;
 pub mod traffic;

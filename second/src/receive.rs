@@ -102,11 +102,8 @@ pub fn receive_by_rule(input: &[u8], store: &mut [u8], output: &mut [u8], flags:
     if flags.len() != 384 {
         return 4;
     }
-    let differ = |half: u8| {
-        let differs = |&number: &usize| input[64 * number] & half != PILOTS[number] & half;
-        (0..96).filter(differs).count()
-    };
-    if differ(0xF0) >= 13 || differ(0x0F) >= 13 {
+    let differ = |&number: &usize| input[64 * number] != PILOTS[number];
+    if (0..96).filter(differ).count() >= 25 {
         return 5;
     }
 
@@ -161,10 +158,6 @@ pub fn receive_by_rule(input: &[u8], store: &mut [u8], output: &mut [u8], flags:
 mod tests {
     use super::*;
     use crate::send::send;
-    use crate::spoil::{
-        lock_with, spoil_any, swap_polarisations, Wrong, ALL_WRONG, MOST_WITH_LOCK, NONE_WRONG,
-        ONE_TOO_MANY,
-    };
     use crate::symbols::bit_place;
     use crate::xorshift::Xorshift;
 
@@ -212,6 +205,12 @@ mod tests {
         flip(frame, word, &numbers);
     }
 
+    fn spoil_pilots(random: &mut Xorshift, frame: &mut [u8], count: usize) {
+        for number in random.choose(96, count) {
+            frame[64 * number] ^= 1 + random.below(255) as u8;
+        }
+    }
+
     #[test]
     fn both_ways_agree_on_random_payload_and_stores() {
         let mut random = Xorshift::new(41);
@@ -247,9 +246,7 @@ mod tests {
             for (word, count) in flips.into_iter().enumerate() {
                 flip_any(&mut random, &mut frame, word, count);
             }
-            let (x, y) = (number % 13, 5 * number % 13);
-            let both = x.min(y) / 2;
-            spoil_any(&mut random, &mut frame, [x - both, y - both, both]);
+            spoil_pilots(&mut random, &mut frame, number % 25);
             let (_, flags) = receive_both_ways(&mut random, &frame, &mut receiver);
             for (flips, flag) in flips.into_iter().zip(flags) {
                 seen[flips][usize::from(flag)] += 1;
@@ -443,91 +440,44 @@ mod tests {
     const RIGHT: [usize; 4] = [6_144, 2_880, 5_280, 384];
 
     /// The input begins with a frame in which so many pilots are wrong.
-    fn long_buffers(seed: u64, wrong: Wrong) -> [Vec<u8>; 4] {
+    fn long_buffers(seed: u64, wrong: usize) -> [Vec<u8>; 4] {
         let mut random = Xorshift::new(seed);
         let mut buffers = [(); 4].map(|()| random.bytes(20_000));
         let (_, mut frame) = send_random(&mut random, &mut [0; 2_880]);
-        spoil_any(&mut random, &mut frame, wrong);
+        spoil_pilots(&mut random, &mut frame, wrong);
         buffers[0][..6_144].copy_from_slice(&frame);
         buffers
     }
 
-    /// Refused by 5, or received as with all pilots right.
-    fn received_with(random: &mut Xorshift, lock: bool, buffers: &[Vec<u8>; 4]) {
-        if !lock {
-            for way in ALL {
-                refused(way, 5, buffers, RIGHT);
-            }
-            return;
-        }
-        let frame = &buffers[0][..6_144];
-        let mut right = frame.to_vec();
-        for (row, pilot) in PILOTS.into_iter().enumerate() {
-            right[64 * row] = pilot;
-        }
-        let mut store = buffers[1][..2_880].to_vec();
-        let mut of_right = store.clone();
-        let got = receive_both_ways(random, frame, &mut store);
-        assert!(got == receive_both_ways(random, &right, &mut of_right));
-        assert!(store == of_right);
-    }
-
     #[test]
-    fn with_12_wrong_in_a_half_there_is_lock_and_with_13_there_is_none() {
+    fn with_24_wrong_pilots_there_is_lock_and_with_25_there_is_none() {
         let mut random = Xorshift::new(49);
-        for count in 0..=96 {
-            for wrong in [[count, 0, 0], [0, count, 0], [0, 0, count]] {
+        for wrong in 0..=96 {
+            for _ in 0..3 {
                 let buffers = long_buffers(random.next_u64(), wrong);
-                received_with(&mut random, count < 13, &buffers);
-            }
-        }
-        // So many in X and in Y, of which so many are the same.
-        for x in 10..16 {
-            for y in 10..16 {
-                for both in [0, 1, 5, 10] {
-                    let buffers = long_buffers(random.next_u64(), [x - both, y - both, both]);
-                    received_with(&mut random, x < 13 && y < 13, &buffers);
+                if wrong >= 25 {
+                    for way in ALL {
+                        refused(way, 5, &buffers, RIGHT);
+                    }
+                    continue;
                 }
+                let frame = &buffers[0][..6_144];
+                let mut right = frame.to_vec();
+                for (row, pilot) in PILOTS.into_iter().enumerate() {
+                    right[64 * row] = pilot;
+                }
+                let mut store = buffers[1][..2_880].to_vec();
+                let mut of_right = store.clone();
+                let got = receive_both_ways(&mut random, frame, &mut store);
+                assert!(got == receive_both_ways(&mut random, &right, &mut of_right));
+                assert!(store == of_right);
             }
-        }
-    }
-
-    #[test]
-    fn of_24_wrong_pilots_only_12_in_x_and_12_others_in_y_lock() {
-        let mut random = Xorshift::new(52);
-        let mut splits = 0;
-        for x in 0..=24 {
-            for y in 0..=24 - x {
-                let wrong = [x, y, 24 - x - y];
-                let buffers = long_buffers(random.next_u64(), wrong);
-                received_with(&mut random, (x, y) == (12, 12), &buffers);
-                assert_eq!(lock_with(wrong), (x, y) == (12, 12));
-                splits += 1;
-            }
-        }
-        assert_eq!(splits, 325);
-    }
-
-    /// A part, from the frame's first symbol on: a pilot in it differs in both halves, or in none.
-    #[test]
-    fn with_polarisations_swapped_13_pilots_of_unlike_halves_refuse_a_frame() {
-        let mut random = Xorshift::new(53);
-        for rows in 0..=96 {
-            let unlike = |pilot: &&u8| *pilot >> 4 != *pilot % 16;
-            let differ = PILOTS[..rows].iter().filter(unlike).count();
-            let mut buffers = long_buffers(random.next_u64(), NONE_WRONG);
-            let before = buffers[0][..6_144].to_vec();
-            swap_polarisations(&mut buffers[0][..64 * rows]);
-            received_with(&mut random, differ < 13, &buffers);
-            // Swapped back, all is as it was sent.
-            swap_polarisations(&mut buffers[0][..64 * rows]);
-            assert!(buffers[0][..6_144] == before);
         }
     }
 
     #[test]
     fn every_wrong_length_is_refused() {
-        let buffers = long_buffers(50, NONE_WRONG);
+        let buffers = long_buffers(50, 0);
         let mut calls = 0;
         for (which, number) in [(0, 1), (1, 2), (2, 3), (3, 4)] {
             for length in (0..=7_000).filter(|&length| length != RIGHT[which]) {
@@ -546,8 +496,7 @@ mod tests {
     fn the_lowest_refusal_is_given() {
         let tried = [0, 1, 383, 384, 385, 2_880, 5_280, 6_143, 6_144, 20_000];
         let mut together = std::collections::BTreeSet::new();
-        let wrong = [MOST_WITH_LOCK, ONE_TOO_MANY[0], ONE_TOO_MANY[1], ALL_WRONG];
-        for wrong_pilots in wrong {
+        for wrong_pilots in [24, 25, 96] {
             let buffers = long_buffers(51, wrong_pilots);
             let mut lengths = [0; 4];
             for number in 0..tried.len().pow(4) {
@@ -560,7 +509,7 @@ mod tests {
                     .filter(|&which| lengths[which] != RIGHT[which])
                     .map(|which| which as u32 + 1)
                     .collect();
-                if !lock_with(wrong_pilots) && lengths[0] == 6_144 {
+                if wrong_pilots >= 25 && lengths[0] == 6_144 {
                     apply.push(5);
                 }
                 if let Some(&lowest) = apply.first() {

@@ -197,9 +197,6 @@ mod tests {
     use super::*;
     use crate::capture::{frame_record, order_record};
     use crate::send::send;
-    use crate::spoil::{
-        spoil_any, swap_polarisations, Wrong, ALL_WRONG, MOST_WITH_LOCK, ONE_TOO_MANY,
-    };
     use crate::symbols::bit_place;
     use crate::xorshift::Xorshift;
 
@@ -228,8 +225,10 @@ mod tests {
         }
     }
 
-    fn spoil_pilots(frame: &mut Symbols, wrong: Wrong) {
-        spoil_any(&mut Xorshift::new(76), frame, wrong);
+    fn spoil_pilots(frame: &mut Symbols, count: usize) {
+        for row in 0..count {
+            frame[64 * row] ^= 1;
+        }
     }
 
     fn order(start: u32, asked: u32, allowed: u32) -> Vec<u8> {
@@ -271,7 +270,7 @@ mod tests {
         // Nor does one come after what stops the run.
         let frame = frame_record(0, &sent(61, 1)[0]);
         let mut lost = sent(61, 1)[0];
-        spoil_pilots(&mut lost, [13, 0, 0]);
+        spoil_pilots(&mut lost, 25);
         let lost = frame_record(0, &lost);
         let good = [&LONE_ORDER[..], &frame].concat();
         let refused = Stop::Refused;
@@ -307,7 +306,7 @@ mod tests {
         hit(&mut frames[1], 250..257, 3);
         hit(&mut frames[2], 380..384, 3);
         hit(&mut frames[2], 0..2, 1);
-        spoil_pilots(&mut frames[2], MOST_WITH_LOCK);
+        spoil_pilots(&mut frames[2], 24);
         for start in [0, 77, u32::MAX - 2, u32::MAX - 1, u32::MAX] {
             for (allowed, verdict) in [
                 (0, "FAIL"),
@@ -381,7 +380,7 @@ mod tests {
     fn the_start_frame_lost_or_missing() {
         let frames = sent(75, 3);
         let mut lost = frames[0];
-        spoil_pilots(&mut lost, [0, 13, 0]);
+        spoil_pilots(&mut lost, 25);
         for start in [0, 1, 500, u32::MAX - 1, u32::MAX] {
             let record = |n: u32| {
                 let symbols = &frames[n as usize];
@@ -410,24 +409,16 @@ mod tests {
 
     #[test]
     fn a_frame_without_lock_is_a_loss_and_the_run_goes_on() {
-        let frames = sent(63, 3);
-        let mut swapped = frames[1];
-        swap_polarisations(&mut swapped[2_000..3_500]);
-        let spoilt = ONE_TOO_MANY.map(|wrong| {
-            let mut lost = frames[1];
-            hit(&mut lost, 0..50, 3);
-            spoil_pilots(&mut lost, wrong);
-            lost
-        });
-        for lost in spoilt.into_iter().chain([swapped]) {
-            let mut run = Run::of(&order(5, 3, 0));
-            for (symbols, number) in [&frames[0], &lost, &frames[2]].into_iter().zip(5..) {
-                assert!(run.take(Answer::Frame { number, symbols }));
-            }
-            let numbers = [3, 2, 1, 384, 0, 0, 0];
-            assert_eq!(run.report(), text(numbers, "NOT MEASURED"));
-            assert_eq!(run.stop, None);
+        let mut frames = sent(63, 3);
+        hit(&mut frames[1], 0..50, 3);
+        spoil_pilots(&mut frames[1], 25);
+        let mut run = Run::of(&order(5, 3, 0));
+        for (symbols, number) in frames.iter().zip(5..) {
+            assert!(run.take(Answer::Frame { number, symbols }));
         }
+        let numbers = [3, 2, 1, 384, 0, 0, 0];
+        assert_eq!(run.report(), text(numbers, "NOT MEASURED"));
+        assert_eq!(run.stop, None);
     }
 
     #[test]
@@ -437,7 +428,7 @@ mod tests {
         for (n, frame) in frames.iter_mut().enumerate() {
             hit(frame, 0..n, 1 + n % 4);
         }
-        spoil_pilots(&mut frames[2], ALL_WRONG);
+        spoil_pilots(&mut frames[2], 96);
         for first in [vec![0; 2_880], random.bytes(2_880)] {
             let mut capture = order(0, 9, 0);
             let mut account = opened(0);
@@ -470,7 +461,7 @@ mod tests {
         hit(&mut frames[1], 64..66, 1);
         hit(&mut frames[1], 200..201, 3);
         let mut lost = frames[1];
-        spoil_pilots(&mut lost, [13, 0, 0]);
+        spoil_pilots(&mut lost, 25);
         let records = |allowed, second: &Symbols| {
             let first = frame_record(3, &frames[0]);
             [order(3, 2, allowed), first, frame_record(4, second)].concat()
@@ -508,7 +499,7 @@ mod tests {
     fn a_stopped_run_stays_as_it_was() {
         let frames = sent(65, 3);
         let mut lost = frames[2];
-        spoil_pilots(&mut lost, [0, 13, 0]);
+        spoil_pilots(&mut lost, 25);
         let mut version_0 = frame_record(9, &frames[2]);
         version_0[4] = 0;
         let mut kind_2 = frame_record(9, &frames[2]);
@@ -564,7 +555,7 @@ mod tests {
     fn a_gap_at_the_limit_and_beyond() {
         let frame = sent(66, 1)[0];
         let mut lost = frame;
-        spoil_pilots(&mut lost, [13, 0, 0]);
+        spoil_pilots(&mut lost, 25);
         let million = 1_000_000;
         for start in [0u32, 3, u32::MAX - 500_000, u32::MAX] {
             let run = |d: u32, symbols| {
@@ -595,7 +586,7 @@ mod tests {
     fn anything_after_the_frames_asked_for_is_not_measured() {
         let frames = sent(67, 3);
         let mut lost = frames[2];
-        spoil_pilots(&mut lost, [0, 13, 0]);
+        spoil_pilots(&mut lost, 25);
         let measured = [
             order(0, 2, 0),
             frame_record(0, &frames[0]),
@@ -735,8 +726,8 @@ mod tests {
                 flags.as_mut().unwrap()[words].fill(flips as u8);
             }
         }
-        spoil_pilots(&mut frames[2], MOST_WITH_LOCK);
-        spoil_pilots(&mut frames[4], [0, 13, 0]);
+        spoil_pilots(&mut frames[2], 24);
+        spoil_pilots(&mut frames[4], 25);
         of_frames[4] = None;
 
         let mut random = Xorshift::new(70);

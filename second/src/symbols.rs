@@ -32,13 +32,8 @@ pub const PILOTS: [u8; PILOT_COUNT] = [
     0x28, 0x88, 0x0A, 0x0A, 0xA8, 0x22, 0x0A, 0x80, 0x88, 0x2A, 0x8A, 0x0A,
 ];
 
-/// A frame in which so many pilots differ in their X half, or so many in their Y half, or more,
-/// gives no lock.
-pub const NO_LOCK: usize = 13;
-
-/// So many pilots whose bytes differ, in whichever half, are NO_LOCK in one of the halves: a bound
-/// that follows, and no rule of its own.
-pub const NO_LOCK_BYTES: usize = 2 * NO_LOCK - 1;
+/// A frame in which so many pilots differ, or more, gives no lock.
+pub const NO_LOCK: usize = 25;
 
 pub const fn level(label: u8) -> Option<i8> {
     match label {
@@ -172,47 +167,17 @@ pub fn frame(words: &[u64; 2 * FRAME_WORDS], output: &mut [u8; FRAME_SYMBOLS]) {
     }
 }
 
-/// How many of the 96 pilots differ from table 5 in their X half, and how many in their Y half.
-pub fn wrong_pilots(frame: &[u8; FRAME_SYMBOLS]) -> [usize; 2] {
-    const LOWER: u64 = 0x7777_7777_7777_7777;
-    const ONES: u64 = 0x1111_1111_1111_1111;
-    const LAST: u64 = 0x0F0F_0F0F_0F0F_0F0F;
-
-    // Eight pilots at a time, as a number of 16 halves, each of which then counts up to 12.
-    let mut counts = 0;
-    for (eight, pilots) in PILOTS.chunks_exact(8).enumerate() {
-        let symbols: [u8; 8] = std::array::from_fn(|n| frame[ROW_SYMBOLS * (8 * eight + n)]);
-        let pilots: [u8; 8] = pilots.try_into().expect("eight pilots");
-        let difference = u64::from_ne_bytes(symbols) ^ u64::from_ne_bytes(pilots);
-        // Seven more set the top bit of a half unless the three below it are zero.
-        let differs = ((difference & LOWER) + LOWER) | difference;
-        counts += differs >> 3 & ONES;
-    }
-    [counts >> 4, counts].map(|halves| {
-        let counts = (halves & LAST).to_ne_bytes();
-        usize::from(counts.into_iter().sum::<u8>())
-    })
+/// How many of the 96 pilots are not what table 5 has.
+pub fn wrong_pilots(frame: &[u8; FRAME_SYMBOLS]) -> usize {
+    let rows = frame.chunks_exact(ROW_SYMBOLS);
+    rows.zip(PILOTS)
+        .filter(|(row, pilot)| row[0] != *pilot)
+        .count()
 }
 
 /// Whether a frame locks.
 pub fn locks(frame: &[u8; FRAME_SYMBOLS]) -> bool {
-    let [x, y] = wrong_pilots(frame);
-    x < NO_LOCK && y < NO_LOCK
-}
-
-/// The same, straight from the words, of any symbols: one that is not there differs in both halves.
-pub fn locks_by_rule(symbols: &[u8]) -> bool {
-    let (mut x, mut y) = (0, 0);
-    for (number, pilot) in PILOTS.into_iter().enumerate() {
-        let symbol = symbols.get(64 * number);
-        if symbol.map(|symbol| symbol >> 4) != Some(pilot >> 4) {
-            x += 1;
-        }
-        if symbol.map(|symbol| symbol % 16) != Some(pilot % 16) {
-            y += 1;
-        }
-    }
-    !(x >= 13 || y >= 13)
+    wrong_pilots(frame) < NO_LOCK
 }
 
 /// Exchanges the bits of `low` at the mask with those of `high` so many places above it.
@@ -308,7 +273,6 @@ pub fn frame_words(frame: &[u8; FRAME_SYMBOLS]) -> [u64; 2 * FRAME_WORDS] {
 #[cfg(test)]
 mod tests {
     use super::*;
-    use crate::spoil::spoil;
     use crate::word::{encode_frame, only_bit};
     use crate::xorshift::Xorshift;
 
@@ -588,123 +552,34 @@ mod tests {
         }
     }
 
-    /// What both ways count and say of a frame.
-    fn said(frame: &[u8; FRAME_SYMBOLS]) -> ([usize; 2], bool) {
-        assert_eq!(locks(frame), locks_by_rule(frame));
-        (wrong_pilots(frame), locks(frame))
-    }
-
     #[test]
-    fn any_difference_in_a_half_counts_once_for_that_half() {
+    fn wrong_pilots_are_counted() {
         let mut random = Xorshift::new(25);
         let right = frame_of(&random_words(&mut random));
-        assert_eq!(said(&right), ([0, 0], true));
+        assert_eq!(wrong_pilots(&right), 0);
         for row in 0..PILOT_COUNT {
             for difference in 1..=u8::MAX {
                 let mut frame = right;
                 frame[ROW_SYMBOLS * row] ^= difference;
-                let halves = [difference >= 16, difference % 16 > 0].map(usize::from);
-                assert_eq!(said(&frame), (halves, true));
+                assert_eq!(wrong_pilots(&frame), 1);
             }
         }
-        // The payload does not matter.
         let mut frame = right;
-        for row in frame.chunks_exact_mut(ROW_SYMBOLS) {
-            row[1..].fill_with(|| random.next_u64() as u8);
+        for row in 0..PILOT_COUNT {
+            assert_eq!(wrong_pilots(&frame), row);
+            assert_eq!(locks(&frame), row < 25);
+            frame[ROW_SYMBOLS * row] ^= 1 << random.below(8);
         }
-        assert_eq!(said(&frame), ([0, 0], true));
-    }
-
-    /// In each half alone, and so many wrong in both; at the lowest pilots, the highest, and any.
-    #[test]
-    fn with_12_wrong_in_a_half_there_is_lock_and_with_13_there_is_none() {
-        let mut random = Xorshift::new(26);
-        let right = frame_of(&random_words(&mut random));
-        for count in 0..=PILOT_COUNT {
-            let lowest = 0..count;
-            let highest = PILOT_COUNT - count..PILOT_COUNT;
-            for places in [lowest, highest, 0..PILOT_COUNT] {
-                for (wrong, halves) in [
-                    ([count, 0, 0], [count, 0]),
-                    ([0, count, 0], [0, count]),
-                    ([0, 0, count], [count, count]),
-                ] {
-                    let mut frame = right;
-                    spoil(&mut random, &mut frame, places.clone(), wrong);
-                    assert_eq!(said(&frame), (halves, count < 13));
-                }
+        assert_eq!(wrong_pilots(&frame), 96);
+        // The payload does not matter.
+        for (n, symbol) in frame.iter_mut().enumerate() {
+            if n % ROW_SYMBOLS == 0 {
+                *symbol = PILOTS[n / ROW_SYMBOLS];
+            } else {
+                *symbol = random.next_u64() as u8;
             }
         }
-    }
-
-    /// Every number of pilots wrong in X alone, in Y alone and in both, at any places.
-    #[test]
-    fn every_split_follows_the_rule_and_the_old_one_follows_from_it() {
-        let mut random = Xorshift::new(27);
-        let right = frame_of(&random_words(&mut random));
-        let (mut locked, mut bounds) = (0, [0; 2]);
-        for x in 0..=PILOT_COUNT {
-            for y in 0..=PILOT_COUNT - x {
-                let places = random.choose(PILOT_COUNT, PILOT_COUNT);
-                let (one_half, others) = places.split_at(x + y);
-                let mut frame = right;
-                spoil(&mut random, &mut frame, one_half.to_vec(), [x, y, 0]);
-                for both in 0..=PILOT_COUNT - x - y {
-                    if both > 0 {
-                        spoil(&mut random, &mut frame, [others[both - 1]], [0, 0, 1]);
-                    }
-                    let lock = x + both < 13 && y + both < 13;
-                    assert_eq!(said(&frame), ([x + both, y + both], lock));
-                    locked += usize::from(lock);
-                    // As many differ as there can be with lock, or one more.
-                    let wrong = frame.chunks(64).zip(PILOTS).filter(|(row, p)| row[0] != *p);
-                    match wrong.count() {
-                        24 => {
-                            bounds[0] += 1;
-                            assert_eq!(lock, [x, y, both] == [12, 12, 0]);
-                        }
-                        25.. => {
-                            bounds[1] += 1;
-                            assert!(!lock);
-                        }
-                        _ => {}
-                    }
-                }
-            }
-        }
-        // 325 splits of 24; of all 156,849 those of 25 and more; and with lock the sum of the
-        // squares from 1 to 13.
-        assert_eq!((bounds, locked), ([325, 156_849 - 2_925], 819));
-        assert_eq!(NO_LOCK_BYTES, 25);
-    }
-
-    #[test]
-    fn a_symbol_that_is_not_there_differs_in_both_halves() {
-        let mut random = Xorshift::new(28);
-        let right = frame_of(&random_words(&mut random));
-        for there in 0..=FRAME_SYMBOLS {
-            // The pilots from this one on are not there.
-            let missing = PILOT_COUNT - there.div_ceil(ROW_SYMBOLS);
-            assert_eq!(locks_by_rule(&right[..there]), missing < 13);
-            if there % 61 > 0 {
-                continue;
-            }
-            for more in 0..=13 {
-                let most = PILOT_COUNT - missing;
-                for (wrong, in_a_half) in [
-                    ([more, 0, 0], more),
-                    ([0, more, 0], more),
-                    ([more / 2, more - more / 2, 0], more - more / 2),
-                ] {
-                    let mut frame = right;
-                    if wrong.iter().sum::<usize>() <= most {
-                        spoil(&mut random, &mut frame, 0..most, wrong);
-                        let lock = missing + in_a_half < 13;
-                        assert_eq!(locks_by_rule(&frame[..there]), lock);
-                    }
-                }
-            }
-        }
+        assert_eq!(wrong_pilots(&frame), 0);
     }
 
     #[test]

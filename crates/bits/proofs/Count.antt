@@ -47,13 +47,12 @@ count_both p (suc n) = omega (arith, one (p n), count_both p n)
     one true = refl
     one false = refl
 
--- those that pass one of two tests, and once more those that pass both
-pub count_or : (p q : ℕ → Bool) (n : ℕ) → count (λ i. p i || q i) n + count (λ i. p i && q i) n ≡ count p n + count q n
+pub count_or_le : (p q : ℕ → Bool) (n : ℕ) → count (λ i. p i || q i) n ≤ count p n + count q n
 unfolding count
-count_or p q zero = refl
-count_or p q (suc n) = omega (arith, either (p n) (q n), count_or p q n)
+count_or_le p q zero = zero-le
+count_or_le p q (suc n) = omega (arith, either (p n) (q n), count_or_le p q n)
   where
-    either : (a b : Bool) → cond (a || b) 1 0 + cond (a && b) 1 0 ≡ cond a 1 0 + cond b 1 0
+    either : (a b : Bool) → cond (a || b) 1 0 ≤ cond a 1 0 + cond b 1 0
     either true b = omega arith
     either false b = omega arith
 
@@ -107,7 +106,7 @@ pub count_pos : (p : ℕ → Bool) (n i : ℕ) → i < n → p i ≡ true → 0 
 count_pos p n i h t = omega (arith, count_without i p n h t)
 
 -- those that pass p, by whether they pass q
-pub count_split : (p q : ℕ → Bool) (n : ℕ) → count (λ i. p i && q i) n + count (λ i. p i && not (q i)) n ≡ count p n
+count_split : (p q : ℕ → Bool) (n : ℕ) → count (λ i. p i && q i) n + count (λ i. p i && not (q i)) n ≡ count p n
 unfolding count
 count_split p q zero = refl
 count_split p q (suc n) = omega (arith, of_this (p n) (q n), count_split p q n)

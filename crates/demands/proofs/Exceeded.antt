@@ -26,7 +26,7 @@ use Rattle.lanes.specs.private.Stream.{deinterleaved}
 use Rattle.lanes.proofs.Return.{across, across_lt, across_twice, fetched}
 use Rattle.symbols.specs.definitions.Frame.{frame_of, arrived}
 use Rattle.pilots.specs.definitions.Table5.{pilots}
-use Rattle.pilots.specs.definitions.Pilots.{x_half, y_half, lock_limit}
+use Rattle.pilots.specs.definitions.Pilots.{lock_limit}
 use Rattle.symbols.proofs.Return.{frame_pilot, arrived_frame}
 use Rattle.framing.specs.definitions.Receive.{brought_lanes}
 use Rattle.framing.proofs.Receiving.{all_lengths}
@@ -147,22 +147,20 @@ module _ (ex : Places) (s t : ℕ) (order : s < t) (four : t < 4) (parity : s % 
   run : Trial ex 2 flips (zeros 5280) (zeros 6144) (zeros 5280) (zeros 384)
   run = trials_exist ex 2 flips (zeros 5280) (zeros 6144) (zeros 5280) (zeros 384) (λ f h. (long 5280 f, long 6144 f))
 
-  unhit : (half : ℕ → ℕ) → half 0 ≡ 0 → (f : ℕ) → hit_pilots half (flips f) ≡ 0
+  unhit : (f : ℕ) → hit_pilots (flips f) ≡ 0
   unfolding flips hit_pilots
-  unhit half z f =
-      count_none (λ k. not (eqb (half (get_or (flips_of (part f)) (64 * k) 0)) 0)) 96
-      (λ k l. ap not (eq-eqb (half (get_or (flips_of (part f)) (64 * k) 0)) 0 (ap half (flips_pilot (part f) k l) ∙ z)))
+  unhit f =
+      count_none (λ k. not (eqb (get_or (flips_of (part f)) (64 * k) 0) 0)) 96
+      (λ k l. ap not (eq-eqb (get_or (flips_of (part f)) (64 * k) 0) 0 (flips_pilot (part f) k l)))
 
   accepted : Accepted run
-  unfolding x_half y_half
   accepted f h =
       (run.received.call f h).number
       ∙ all_lengths (hit (run.frames f) (flips f)) (run.stores f) (zeros 5280 f) (zeros 384 f) (hit_length (run.frames f) (flips f))
       (store_whole ex 2 (λ f. hit (run.frames f) (flips f)) (zeros 5280) (zeros 384) run.numbers run.stores run.back run.flag_bytes
       run.received f (omega arith))
       (long 5280 f) (long 384 f)
-      ∙ ap (λ (b : Bool). cond b 0 5) (hit_locks (run.frames f) (flips f) (λ k l. frame_pilots run f k h l)
-      ∙ ap₂ (λ (x y : ℕ). ltb x lock_limit && ltb y lock_limit) (unhit x_half refl f) (unhit y_half refl f))
+      ∙ ap (λ (b : Bool). cond b 0 5) (hit_locks (run.frames f) (flips f) (λ k l. frame_pilots run f k h l) ∙ ap (λ (n : ℕ). ltb n lock_limit) (unhit f))
 
   -- one word is hit by more than two flips
   absent : (p w : ℕ) → p < 32 → 2 < flips_in flips p w → arrived (flips (w / 12)) (32 * (w % 12) + p) ≢ 0

@@ -1,18 +1,18 @@
 -- A frame hit by flips: its words are the words sent with the words' flips, and its lock depends on the flips alone.
 -- Assumes nothing.
 use mathlib.Core.Path.{◌≡◌, sym, ap, ap₂, ◌∙◌, subst}
-use mathlib.Core.Bool.{Bool, not, ◌&&◌}
+use mathlib.Core.Bool.{true, not, ◌&&◌}
 use mathlib.Core.List.{List}
 use Prim.Native.Nat.{ℕ, ◌+◌, ◌*◌, ◌/◌, ◌%◌, ◌^◌, ◌≤◌, ◌<◌}
 use native.Mathlib.Nat.{zero-add}
 use native.Mathlib.Decide.{ℕ_discrete}
 use native.Mathlib.Omega.{arith}
 use lib.Dec.{eqb, ltb}
-use borrow.Author.Tests.{eq-eqb, ne_eqb}
+use borrow.Author.Tests.{lt-ltb, eq-eqb, ne_eqb}
 use lib.ListN.{length, get_or}
 use lib.Seq.{ext_get_or}
-use lib.Bits.{bit_xor, differ, xor_lt, xor_self, xor_zero_r, xor_shr, xor_mod}
-use Rattle.bits.specs.definitions.Bits.{bit_of, count}
+use lib.Bits.{bit_xor, differ, xor_lt, xor_self, xor_zero_r}
+use Rattle.bits.specs.definitions.Bits.{bit_of}
 use Rattle.bits.proofs.Tabulate.{length_tabulate, get_d_tabulate}
 use Rattle.bits.proofs.Count.{count_cong}
 use Rattle.bits.proofs.Value.{bit_xor_lem, bit_ext}
@@ -29,8 +29,7 @@ use Rattle.lane_words.proofs.LaneWords.{lanes_information}
 use Rattle.shuffle.specs.definitions.Shuffle.{place}
 use Rattle.symbols.specs.definitions.Mapping.{payload_at, symbol_of, bit_in}
 use Rattle.pilots.specs.definitions.Table5.{pilots}
-use Rattle.pilots.specs.definitions.Pilots.{x_half, y_half, met, wrong_pilots, locks, lock_limit}
-use Rattle.pilots.proofs.Halves.{met_is}
+use Rattle.pilots.specs.definitions.Pilots.{met, wrong_pilots, locks, lock_limit}
 use Rattle.symbols.specs.definitions.Frame.{placed_bit, arrived, words_of}
 use Rattle.shuffle.proofs.Places.{place_lt}
 use Rattle.symbols.proofs.Places.{symbol_lt, bit_in_lt}
@@ -85,22 +84,16 @@ xor_test x e = go (ℕ_discrete e 0)
     go (yes z) = eq-eqb (bit_xor x e) x (ap (bit_xor x) z ∙ xor_zero_r x) ∙ sym (eq-eqb e 0 z)
     go (no z) = ne_eqb (bit_xor x e) x (λ s. z (sym (xor_cancel x e) ∙ ap (bit_xor x) s ∙ xor_self x)) ∙ sym (ne_eqb e 0 z)
 
--- by the flips alone a frame locks: fewer pilots are hit than refuse it, in X and in Y
-abbrev pub flips_lock : List ℕ → Bool
-flips_lock flips = ltb (hit_pilots x_half flips) lock_limit && ltb (hit_pilots y_half flips) lock_limit
-
 -- a frame with the right pilots locks unless too many of them are hit
-pub hit_locks : (f e : List ℕ) → ((k : ℕ) → k < 96 → get_or f (64 * k) 0 ≡ get_or pilots k 0) → locks (hit f e) 0 ≡ flips_lock e
-unfolding locks wrong_pilots hit_pilots x_half y_half
-hit_locks f e pilot =
-    ap₂ (λ (x y : ℕ). ltb x lock_limit && ltb y lock_limit) (in_half x_half (λ a b. xor_shr a b 4)) (in_half y_half (λ a b. xor_mod a b 4))
+pub hit_locks : (f e : List ℕ) → ((k : ℕ) → k < 96 → get_or f (64 * k) 0 ≡ get_or pilots k 0) → locks (hit f e) 0 ≡ ltb (hit_pilots e) lock_limit
+unfolding locks wrong_pilots met hit_pilots
+hit_locks f e pilot = ap (λ (n : ℕ). ltb n lock_limit) (count_cong 96 _ _ (λ i h. ap not (at i h)))
   where
-    in_half : (half : ℕ → ℕ) → ((a b : ℕ) → half (bit_xor a b) ≡ bit_xor (half a) (half b))
-        → count (λ k. not (met half (hit f e) 0 k)) 96 ≡ count (λ k. not (eqb (half (get_or e (64 * k) 0)) 0)) 96
-    in_half half parts = count_cong 96 _ _ (λ k h. ap not (met_is half (hit f e) 0 k (omega (arith, hit_length f e)) ∙ at k h))
-      where
-        at : (k : ℕ) → k < 96 → eqb (half (get_or (hit f e) (0 + 64 * k) 0)) (half (get_or pilots k 0)) ≡ eqb (half (get_or e (64 * k) 0)) 0
-        at k h = rw (zero-add (64 * k), hit_at f e (64 * k) (omega arith), pilot k h, parts) (xor_test (half (get_or pilots k 0)) (half (get_or e (64 * k) 0)))
+    there : (i : ℕ) → i < 96 → ltb (64 * i) 6144 ≡ true
+    there i h = lt-ltb (64 * i) 6144 (omega arith)
+
+    at : (i : ℕ) → i < 96 → (ltb (0 + 64 * i) (length (hit f e)) && eqb (get_or (hit f e) (0 + 64 * i) 0) (get_or pilots i 0)) ≡ eqb (get_or e (64 * i) 0) 0
+    at i h = rw (zero-add (64 * i), hit_length f e, there i h, hit_at f e (64 * i) (omega arith), pilot i h) (xor_test (get_or pilots i 0) (get_or e (64 * i) 0))
 
 -- ---- what is made of a hit frame of code words
 

@@ -1,7 +1,7 @@
 -- Frames that were sent are found, damaged too; what receiving accepts is found, and receiving accepts what is found.
 -- Assumes nothing.
-use mathlib.Core.Path.{◌≡◌, sym, ap, ◌∙◌}
-use mathlib.Core.Bool.{Bool, cond}
+use mathlib.Core.Path.{◌≡◌, refl, sym, ap, ◌∙◌}
+use mathlib.Core.Bool.{Bool, true, false, cond}
 use mathlib.Core.List.{List}
 use Prim.Native.Nat.{ℕ, ◌+◌, ◌*◌, ◌≤◌}
 use native.Mathlib.Nat.{zero-add}
@@ -12,7 +12,7 @@ use borrow.Author.Tests.{lt-ltb}
 use Rattle.bits.specs.definitions.Call.{unless}
 use Rattle.bits.proofs.Calls.{passes, written}
 use Rattle.lanes.specs.definitions.Permutation.{Places}
-use Rattle.pilots.specs.definitions.Pilots.{x_half, y_half, locks, lock_limit}
+use Rattle.pilots.specs.definitions.Pilots.{locks, lock_limit}
 use Rattle.pilots.proofs.Lock.{locks_alike}
 use Rattle.framing.specs.definitions.Send.{sent_frame, send_number, Sends}
 use Rattle.framing.specs.definitions.Receive.{receive_number}
@@ -25,7 +25,6 @@ use Rattle.adderbloom.specs.definitions.Found.{found_of}
 use Rattle.demands.specs.definitions.Trial.{hit, hit_pilots}
 use Rattle.demands.specs.statements.Hunt.{SentFound, HitFound, AcceptedFound, FoundAccepted, HuntedAlike}
 use Rattle.demands.proofs.Hit.{hit_length, hit_locks}
-use Rattle.demands.proofs.Refusals.{lock_only}
 
 -- ---- what was sent
 -- a call that was done leaves the frame
@@ -38,13 +37,16 @@ sent_found ex a s o r s' frame S z before behind =
     found_by_then before frame behind (ap length e ∙ frame_length ex a s) (ap (λ (f : List ℕ). locks f 0) e ∙ sent_locks ex a s)
 
 pub hit_found : HitFound
-hit_found ex a s o r s' frame S z flips x y before behind =
+hit_found ex a s o r s' frame S z flips few before behind =
     let e = sent ex a s o r s' frame S z in
     found_by_then before (hit frame flips) behind (hit_length frame flips)
-    (hit_locks frame flips (λ k h. ap (λ (f : List ℕ). get_or f (64 * k) 0) e ∙ sent_pilot ex a s k h)
-    ∙ rw (lt-ltb (hit_pilots x_half flips) lock_limit x) (lt-ltb (hit_pilots y_half flips) lock_limit y))
+    (hit_locks frame flips (λ k h. ap (λ (f : List ℕ). get_or f (64 * k) 0) e ∙ sent_pilot ex a s k h) ∙ lt-ltb (hit_pilots flips) lock_limit few)
 
 -- ---- what receiving accepts
+locked : (b : Bool) → ◌≡◌ {A = ℕ} (cond b 0 5) 0 → b ≡ true
+locked true e = refl
+locked false e = absurd (omega arith)
+
 pub accepted_found : AcceptedFound
 unfolding receive_number
 accepted_found ex f s o g r s' o' g' R z before behind =
@@ -52,7 +54,7 @@ accepted_found ex f s o g r s' o' g' R z before behind =
     let lanes = passes 2880 s 1 (unless 5280 o 3 (unless 384 g 4 (cond (locks f 0) 0 5))) all.1 in
     let flags = passes 5280 o 2 (unless 384 g 4 (cond (locks f 0) 0 5)) lanes.1 in
     let lock = passes 384 g 3 (cond (locks f 0) 0 5) flags.1 in
-    found_by_then before f behind all.0 ((lock_only (locks f 0)).0.0 lock.1)
+    found_by_then before f behind all.0 (locked (locks f 0) lock.1)
 
 -- ---- what is found
 module _ (run : List ℕ) (start : ℕ) (fits : start + 6144 ≤ length run) where

@@ -1,7 +1,7 @@
 -- The refusal list, number by number: each by the first test that fails, from the laws of the calls.
 -- Assumes nothing.
 use mathlib.Core.Path.{◌≡◌, refl, sym, ap, ◌∙◌, subst}
-use mathlib.Core.Bool.{Bool, true, false, cond, not, ◌||◌, false≢true}
+use mathlib.Core.Bool.{Bool, true, false, cond, not, ◌&&◌, ◌||◌, false≢true}
 use mathlib.Core.Logic.{◌≢◌, ◌⊎◌, inl, inr, ⊎_elim, ◌↔◌}
 use mathlib.Core.List.{List}
 use Prim.Native.Nat.{ℕ, ◌+◌, ◌*◌, ◌-◌, ◌^◌, ◌≤◌, ◌<◌}
@@ -15,8 +15,7 @@ use Rattle.bits.specs.definitions.Bits.{count}
 use Rattle.bits.proofs.Count.{count_cong}
 use Rattle.bits.proofs.Calls.{by_test, kept}
 use Rattle.pilots.specs.definitions.Table5.{pilots}
-use Rattle.pilots.specs.definitions.Pilots.{x_half, y_half, wrong_pilots, locks, whole}
-use Rattle.pilots.proofs.Halves.{met_is, locked_by, no_lock_exactly, twelve_and_twelve}
+use Rattle.pilots.specs.definitions.Pilots.{met, wrong_pilots, locks}
 use Rattle.framing.proofs.Sending
 use Rattle.framing.proofs.Receiving
 use Rattle.account.specs.declared.Account.{Account}
@@ -30,7 +29,7 @@ use Rattle.capture.proofs.Cases.{refused_short, refused_version, refused_kind, n
 use Rattle.capture.proofs.Cases.{no_length, an_order, a_frame, no_lawful}
 use Rattle.capture.proofs.Found.{Stands, stands}
 use Rattle.demands.specs.definitions.Refusals.{Above}
-use Rattle.demands.specs.statements.Refusals.{SendRefusals, ReceiveRefusals, TwentyFourAccepted, RecordRefusals, EntryRefusals, Refusals}
+use Rattle.demands.specs.statements.Refusals.{SendRefusals, ReceiveRefusals, RecordRefusals, EntryRefusals, Refusals}
 
 -- ---- sending and receiving
 
@@ -44,85 +43,28 @@ send_refusals ex a s o r s' o' C = (
 )
 
 -- the pilots that differ, in a whole frame
-pilots_wrong : (part : ℕ → ℕ) (f : List ℕ) → length f ≡ 6144
-    → wrong_pilots part f 0 ≡ count (λ k. not (eqb (part (get_or f (64 * k) 0)) (part (get_or pilots k 0)))) 96
-unfolding wrong_pilots
-pilots_wrong part f h = count_cong 96 _ _ (λ k l. ap not
-    (met_is part f 0 k (omega arith) ∙ ap (λ (n : ℕ). eqb (part (get_or f n 0)) (part (get_or pilots k 0))) (zero-add (64 * k))))
+pilots_wrong : (f : List ℕ) → length f ≡ 6144 → wrong_pilots f 0 ≡ count (λ k. not (eqb (get_or f (64 * k) 0) (get_or pilots k 0))) 96
+unfolding wrong_pilots met
+pilots_wrong f h = count_cong 96 _ _ (λ k l. ap not (at k l))
+  where
+    at : (k : ℕ) → k < 96 → (ltb (0 + 64 * k) (length f) && eqb (get_or f (0 + 64 * k) 0) (get_or pilots k 0)) ≡ eqb (get_or f (64 * k) 0) (get_or pilots k 0)
+    at k l = rw (zero-add (64 * k), lt-ltb (64 * k) (length f) (omega arith)) refl
 
--- where lock alone decides
-pub lock_only : (b : Bool) → let n : ℕ = cond b 0 5 in ((n ≡ 0) ↔ (b ≡ true)) × ((n ≡ 5) ↔ (b ≡ false)) × ((n ≡ 0) ⊎ (n ≡ 5))
-lock_only true = ((λ e. refl, λ e. refl), (λ e. absurd (omega arith), λ e. absurd (false≢true (sym e))), inl refl)
-lock_only false = ((λ e. absurd (omega arith), λ e. absurd (false≢true e)), (λ e. refl, λ e. refl), inr refl)
-
--- the three grounds of 5, by equal numbers
-grounds : (a b c : ℕ) {a' b' c' : ℕ} → a ≡ a' → b ≡ b' → c ≡ c' → (25 ≤ a) ⊎ ((13 ≤ b) ⊎ (13 ≤ c)) → (25 ≤ a') ⊎ ((13 ≤ b') ⊎ (13 ≤ c'))
-grounds a b c e f g (inl h) = inl (omega arith)
-grounds a b c e f g (inr (inl h)) = inr (inl (omega arith))
-grounds a b c e f g (inr (inr h)) = inr (inr (omega arith))
+lock_test : (f : List ℕ) (wrong : ℕ) → length f ≡ 6144 → wrong ≡ count (λ k. not (eqb (get_or f (64 * k) 0) (get_or pilots k 0))) 96 → locks f 0 ≡ ltb wrong 25
+unfolding locks
+lock_test f wrong h w = rw (w, pilots_wrong f h) refl
 
 pub receive_refusals : ReceiveRefusals
-unfolding whole x_half y_half
-receive_refusals ex f s o g r s' o' g' C wrong wrongX wrongY w x y = (
-  (accepted, rows.1, rows.2, rows.3, rows.4, refused, rows.6),
+receive_refusals ex f s o g r s' o' g' C wrong w = (
+  by_test (ℕ_discrete (length f) 6144) (λ h. let e = C.number ∙ Receiving.short_frame f s o g h in omega arith)
+      λ h. by_test (ℕ_discrete (length s) 2880) (λ i. let e = C.number ∙ Receiving.short_store f s o g h i in omega arith)
+      λ i. by_test (ℕ_discrete (length o) 5280) (λ j. let e = C.number ∙ Receiving.short_lanes f s o g h i j in omega arith)
+      λ j. by_test (ℕ_discrete (length g) 384) (λ k. let e = C.number ∙ Receiving.short_flags f s o g h i j k in omega arith)
+      λ k. let lock : r ≡ cond (ltb wrong 25) 0 5 = C.number ∙ Receiving.all_lengths f s o g h i j k ∙ rw (lock_test f wrong h w) refl in
+      by_test (dec_lt wrong 25) (λ l. let e : r ≡ 5 = lock ∙ rw (le-ltb wrong 25 (omega arith)) refl in omega arith)
+      λ l. let e : r ≡ 0 = lock ∙ rw (lt-ltb wrong 25 l) refl in omega arith,
   λ z. (kept r _ _ s s' C.number C.store z, kept r _ _ o o' C.number C.output z, kept r _ _ g g' C.number C.flags z),
 )
-  where
-    answer : ℕ
-    answer = cond (locks f 0) 0 5
-
-    rows : ((r ≡ 0) ↔ ((length f ≡ 6144) × (length s ≡ 2880) × (length o ≡ 5280) × (length g ≡ 384) × (answer ≡ 0)))
-        × ((r ≡ 1) ↔ (length f ≢ 6144))
-        × ((r ≡ 2) ↔ ((length f ≡ 6144) × (length s ≢ 2880)))
-        × ((r ≡ 3) ↔ ((length f ≡ 6144) × (length s ≡ 2880) × (length o ≢ 5280)))
-        × ((r ≡ 4) ↔ ((length f ≡ 6144) × (length s ≡ 2880) × (length o ≡ 5280) × (length g ≢ 384)))
-        × ((r ≡ 5) ↔ ((length f ≡ 6144) × (length s ≡ 2880) × (length o ≡ 5280) × (length g ≡ 384) × (answer ≡ 5)))
-        × (r ≤ 5)
-    rows =
-        by_test (ℕ_discrete (length f) 6144) (λ h. let e = C.number ∙ Receiving.short_frame f s o g h in omega arith)
-        λ h. by_test (ℕ_discrete (length s) 2880) (λ i. let e = C.number ∙ Receiving.short_store f s o g h i in omega arith)
-        λ i. by_test (ℕ_discrete (length o) 5280) (λ j. let e = C.number ∙ Receiving.short_lanes f s o g h i j in omega arith)
-        λ j. by_test (ℕ_discrete (length g) 384) (λ k. let e = C.number ∙ Receiving.short_flags f s o g h i j k in omega arith)
-        λ k. let e : r ≡ answer = C.number ∙ Receiving.all_lengths f s o g h i j k in
-        ⊎_elim (λ (z : answer ≡ 0). omega arith) (λ (z : answer ≡ 5). omega arith) (lock_only (locks f 0)).2
-
-    in_x : length f ≡ 6144 → wrong_pilots x_half f 0 ≡ wrongX
-    in_x h = pilots_wrong x_half f h ∙ sym x
-
-    in_y : length f ≡ 6144 → wrong_pilots y_half f 0 ≡ wrongY
-    in_y h = pilots_wrong y_half f h ∙ sym y
-
-    in_bytes : length f ≡ 6144 → wrong_pilots whole f 0 ≡ wrong
-    in_bytes h = pilots_wrong whole f h ∙ sym w
-
-    accepted : (r ≡ 0) ↔ ((length f ≡ 6144) × (length s ≡ 2880) × (length o ≡ 5280) × (length g ≡ 384) × (wrongX < 13) × (wrongY < 13))
-    accepted = (
-      λ z.
-          let c = rows.0.0 z in
-          let k = (locked_by f 0).0 ((lock_only (locks f 0)).0.0 c.4) in
-          (c.0, c.1, c.2, c.3, omega (arith, in_x c.0), omega (arith, in_y c.0)),
-      λ c.
-          let k = (locked_by f 0).1 (omega (arith, in_x c.0), omega (arith, in_y c.0)) in
-          rows.0.1 (c.0, c.1, c.2, c.3, (lock_only (locks f 0)).0.1 k),
-    )
-
-    refused : (r ≡ 5)
-        ↔ ((length f ≡ 6144) × (length s ≡ 2880) × (length o ≡ 5280) × (length g ≡ 384) × ((25 ≤ wrong) ⊎ ((13 ≤ wrongX) ⊎ (13 ≤ wrongY))))
-    refused = (
-      λ z.
-          let c = rows.5.0 z in
-          let k = (no_lock_exactly f 0).0 ((lock_only (locks f 0)).1.0 c.4) in
-          (c.0, c.1, c.2, c.3, grounds _ _ _ (in_bytes c.0) (in_x c.0) (in_y c.0) k),
-      λ c.
-          let k = (no_lock_exactly f 0).1 (grounds _ _ _ (sym (in_bytes c.0)) (sym (in_x c.0)) (sym (in_y c.0)) c.4) in
-          rows.5.1 (c.0, c.1, c.2, c.3, (lock_only (locks f 0)).1.1 k),
-    )
-
-pub twenty_four_accepted : TwentyFourAccepted
-twenty_four_accepted ex f s o g r s' o' g' C h i j k w =
-    let n : r ≡ cond (locks f 0) 0 5 = C.number ∙ Receiving.all_lengths f s o g h i j k in
-    let t = twelve_and_twelve f 0 w in
-    (λ z. t.0 ((lock_only (locks f 0)).0.0 (sym n ∙ z)), λ z. n ∙ (lock_only (locks f 0)).0.1 (t.1 z))
 
 -- ---- records
 

@@ -5,8 +5,10 @@ use mathlib.Core.Bool.{Bool, cond}
 use mathlib.Core.List.{List, append_assoc}
 use Prim.Native.Nat.{ℕ, zero, suc, ◌^◌, ◌<◌, ◌≤◌}
 use native.Mathlib.Omega.{arith}
+use lib.Dec.{ltb}
 use Rattle.bits.proofs.Tabulate.{length_tabulate}
 use Rattle.lanes.specs.definitions.Permutation.{Places}
+use Rattle.pilots.specs.definitions.Pilots.{lock_limit}
 use Rattle.framing.specs.definitions.Receive.{received_flags}
 use Rattle.account.specs.declared.Account.{Account}
 use Rattle.account.specs.definitions.Account.{tallies_of, frame_entered, loss_entered}
@@ -17,10 +19,10 @@ use Rattle.bench.specs.declared.Phase.TheVariants.{Unordered, Going, Stopped}
 use Rattle.bench.specs.definitions.Run.{after_entry, entry_of, frame_came}
 use Rattle.bench.specs.definitions.Walk.{pieces, through, examined}
 use Rattle.report.specs.definitions.Report.{text}
-use Rattle.demands.specs.definitions.Trial.{hit, Trial}
+use Rattle.demands.specs.definitions.Trial.{hit, hit_pilots, Trial}
 use Rattle.demands.specs.definitions.Tallies.{captured}
 use Rattle.demands.specs.statements.Tallies.{ReportsAlike}
-use Rattle.demands.proofs.Hit.{flips_lock, hit_locks, flags_hit}
+use Rattle.demands.proofs.Hit.{hit_locks, flags_hit}
 use Rattle.demands.proofs.Trial.{code_words, frame_pilots}
 use Rattle.demands.proofs.Arriving.{run_after, onward_frames}
 
@@ -28,7 +30,7 @@ use Rattle.demands.proofs.Arriving.{run_after, onward_frames}
 entry_of_flips : {ex : Places} {n : ℕ} {flips lanes room outs flag_buffers : ℕ → List ℕ} (t : Trial ex n flips lanes room outs flag_buffers)
     → (f : ℕ) → f < n → (a : Account) (got : ℕ)
     → entry_of a got (hit (t.frames f) (flips f))
-    ≡ cond (flips_lock (flips f)) (frame_entered a got (tallies_of a got (received_flags (flips f)))) (loss_entered a got)
+    ≡ cond (ltb (hit_pilots (flips f)) lock_limit) (frame_entered a got (tallies_of a got (received_flags (flips f)))) (loss_entered a got)
 unfolding entry_of
 entry_of_flips {flips = flips} t f h a got =
     ap₂ (λ (b : Bool) (g : List ℕ). cond b (frame_entered a got (tallies_of a got g)) (loss_entered a got))

@@ -10,17 +10,13 @@ use Rattle.traffic.proofs.Frames.{frame_from, one_after_the_other, one_sequence,
 use Rattle.traffic.proofs.Counts.{what_is_compared, counts_exactly, checks_exist}
 use Rattle.traffic.proofs.Refusals.{frame_refusals, next_refusals, check_refusals}
 use Rattle.traffic.proofs.Figures.{traffic_figures}
-use Rattle.pilots.proofs.Table4.{pilot_halves}
-use Rattle.pilots.proofs.Halves.{no_lock_exactly, old_follows, locked_bytes, twelve_and_twelve, lock_figures}
-use Rattle.pilots.proofs.Halves.{swapped_exactly, swapped_figures, missing_differs}
-use Rattle.pilots.proofs.Lock.{locks_alike}
 use Rattle.hunt.proofs.Exactly.{found_exactly, none_exactly, short_exactly, no_other, answer_exactly}
 use Rattle.hunt.proofs.Runs.{found_by_then, however_cut, all_fed, can_be_fed, all_taken, frame_kept}
 use Rattle.hunt.proofs.Refusals.{feed_refusals}
 use Rattle.framing.proofs.Places.{base_places}
 use Rattle.framing.proofs.Stream.{block_rule}
 use Rattle.framing.proofs.Figures.{bench_figures}
-use Rattle.demands.proofs.Refusals.{refusals, twenty_four_accepted}
+use Rattle.demands.proofs.Refusals.{refusals}
 use Rattle.demands.proofs.Symbols.{symbol_rule}
 use Rattle.demands.proofs.Return.{return, one_frame}
 use Rattle.demands.proofs.Stores.{stores_hold, last_kept}
@@ -129,17 +125,6 @@ demands =
       frame_kept = frame_kept;
       feed_refusals = feed_refusals;
       answer_exactly = answer_exactly;
-      no_lock_exactly = no_lock_exactly;
-      old_follows = old_follows;
-      locked_bytes = locked_bytes;
-      twelve_and_twelve = twelve_and_twelve;
-      twenty_four_accepted = twenty_four_accepted;
-      lock_figures = lock_figures;
-      swapped_exactly = swapped_exactly;
-      swapped_figures = swapped_figures;
-      pilots_only = locks_alike;
-      pilot_halves = pilot_halves;
-      missing_differs = missing_differs;
     }
 
 pub calls : Calls

@@ -6,40 +6,37 @@ use mathlib.Core.Bool.{Bool, true, false, cond}
 use mathlib.Core.List.{List}
 use Prim.Native.Nat.{ℕ, ◌+◌, ◌*◌, ◌-◌, ◌%◌, ◌<◌, ◌≤◌}
 use native.Mathlib.Nat.{zero-add}
+use native.Mathlib.Numerals.{add-one}
 use native.Mathlib.Omega.{arith}
 use lib.Dec.{eqb, ltb}
 use lib.Seq.{get_or-take, get_or-drop}
 use lib.ListN.{length, get_or, drop, replicate, length-replicate, get_or-replicate}
 use borrow.Author.Tests.{ltb-true, ltb-false}
 use Rattle.bits.specs.definitions.Bits.{tabulate, count, least}
-use Rattle.bits.proofs.Count.{count_cong, count_both}
+use Rattle.bits.proofs.Count.{count_cong, count_le, count_both}
 use Rattle.bits.proofs.Tabulate.{length_tabulate, get_d_tabulate, tabulate_cong, is_tabulate}
 use Rattle.bits.proofs.Least.{least_le, least_is, least_passes, least_fails}
 use Rattle.pilots.specs.definitions.Table5.{pilots}
-use Rattle.pilots.specs.definitions.Pilots.{met, locks, whole, column_frame}
+use Rattle.pilots.specs.definitions.Pilots.{met, locks, column_frame}
 use Rattle.pilots.specs.private.Pilots.{agreeing, counts, least_right, first_pilots, next_pilots}
-use Rattle.pilots.proofs.Halves.{met_is, agreeing_more}
-use Rattle.pilots.proofs.Lock.{no_lock, column_met}
+use Rattle.pilots.proofs.Lock.{met_is, no_lock, column_met}
 
 -- ---- the filter: with so few of 32 pilots right 25 are wrong, and there is no lock
-pub closed_from : (s : List ℕ) (o i : ℕ) → i + 32 ≤ 96 → count (λ k. met whole s o (i + k)) 32 < least_right → locks s o ≡ false
-closed_from s o i l h = no_lock s o i 32 l (omega (arith, count_both (λ k. met whole s o (i + k)) 32))
+pub closed_from : (s : List ℕ) (o i : ℕ) → i + 32 ≤ 96 → count (λ k. met s o (i + k)) 32 < least_right → locks s o ≡ false
+closed_from s o i l h = no_lock s o i 32 l (omega (arith, count_both (λ k. met s o (i + k)) 32))
 
-pub closed : (s : List ℕ) (o : ℕ) → agreeing whole s o 32 < least_right → locks s o ≡ false
+pub closed : (s : List ℕ) (o : ℕ) → agreeing s o 32 < least_right → locks s o ≡ false
 unfolding agreeing
-closed s o h =
-    closed_from s o 0 (omega arith)
-    (omega (arith, count_cong 32 (λ k. met whole s o (0 + k)) (met whole s o) (λ k l. ap (met whole s o) (zero-add k))))
+closed s o h = closed_from s o 0 (omega arith) (omega (arith, count_cong 32 (λ k. met s o (0 + k)) (met s o) (λ k l. ap (met s o) (zero-add k))))
 
 -- the same for 32 pilots from pilot i on that stand side by side in a column, at row `at`
 pub column_closed : (column : List ℕ) (first at i : ℕ) (group : List ℕ) → i + 32 ≤ 96 → ((k : ℕ) → k < 32 → (first + (i + k)) % 96 ≡ at + k)
     → ((k : ℕ) → k < 32 → get_or group k 0 ≡ get_or pilots (i + k) 0) → count (λ k. eqb (get_or column (at + k) 0) (get_or group k 0)) 32 < least_right
     → locks (column_frame column first) 0 ≡ false
-unfolding whole
 column_closed column first at i group l rows same h =
     closed_from (column_frame column first) 0 i l
-    (let e = count_cong 32 (λ k. met whole (column_frame column first) 0 (i + k)) (λ k. eqb (get_or column (at + k) 0) (get_or group k 0)) (λ k m.
-    column_met column first whole (i + k) (omega arith)
+    (let e = count_cong 32 (λ k. met (column_frame column first) 0 (i + k)) (λ k. eqb (get_or column (at + k) 0) (get_or group k 0)) (λ k m.
+    column_met column first (i + k) (omega arith)
     ∙ ap₂ (λ (x y : ℕ). eqb x y) (ap (λ (n : ℕ). get_or column n 0) (rows k m)) (sym (same k m))) in omega (arith, e))
 
 -- the two groups are pilots
@@ -49,15 +46,26 @@ first_group k h = get_or-take 32 pilots k 0 h ∙ ap (λ (n : ℕ). get_or pilot
 pub next_group : (k : ℕ) → k < 32 → get_or next_pilots k 0 ≡ get_or pilots (32 + k) 0
 next_group k h = get_or-take 32 (drop 32 pilots) k 0 h ∙ get_or-drop 32 pilots k 0
 
+-- no more are right than are counted
+pub agreeing_le : (s : List ℕ) (o m : ℕ) → agreeing s o m ≤ m
+unfolding agreeing
+agreeing_le s o m = count_le (met s o) m
+
+-- one pilot more is counted
+agreeing_more : (s : List ℕ) (o i : ℕ) → o + 64 * i < length s
+    → agreeing s o i + cond (eqb (get_or s (o + 64 * i) 0) (get_or pilots i 0)) 1 0 ≡ agreeing s o (i + 1)
+unfolding agreeing count
+agreeing_more s o i h = rw (add-one, met_is s o i h) (omega arith)
+
 -- ---- the counts of 128 neighbouring offsets from offset o on
 module _ (s : List ℕ) (o : ℕ) where
   -- each of them
-  pub counts_at : (m j : ℕ) {right : List ℕ} → right ≡ counts s o m → j < 128 → get_or right j 0 ≡ agreeing whole s (o + j) m
-  counts_at m j e h = ap (λ (l : List ℕ). get_or l j 0) e ∙ get_d_tabulate 128 (λ j. agreeing whole s (o + j) m) j 0 h
+  pub counts_at : (m j : ℕ) {right : List ℕ} → right ≡ counts s o m → j < 128 → get_or right j 0 ≡ agreeing s (o + j) m
+  counts_at m j e h = ap (λ (l : List ℕ). get_or l j 0) e ∙ get_d_tabulate 128 (λ j. agreeing s (o + j) m) j 0 h
 
   -- and their number
   pub counts_long : (m : ℕ) {right : List ℕ} → right ≡ counts s o m → length right ≡ 128
-  counts_long m e = ap length e ∙ length_tabulate 128 (λ j. agreeing whole s (o + j) m)
+  counts_long m e = ap length e ∙ length_tabulate 128 (λ j. agreeing s (o + j) m)
 
   -- none is counted yet
   pub counts_none : replicate 128 0 ≡ counts s o 0
@@ -67,12 +75,10 @@ module _ (s : List ℕ) (o : ℕ) where
   -- one pilot more is counted at each
   pub counts_more : (i : ℕ) {right next : List ℕ} → o + 64 * i + 128 ≤ length s → right ≡ counts s o i
       → next ≡ tabulate 128 (λ j. get_or right j 0 + cond (eqb (get_or s (o + 64 * i + j) 0) (get_or pilots i 0)) 1 0) → next ≡ counts s o (i + 1)
-  unfolding whole
   counts_more i {right} h e f =
       f ∙ tabulate_cong 128 _ _ (λ j l.
       let at : o + 64 * i + j ≡ o + j + 64 * i = omega arith in
-      ap (λ (n : ℕ). get_or right j 0 + cond (eqb (get_or s n 0) (get_or pilots i 0)) 1 0) at
-      ∙ agreeing_more whole s (o + j) i (counts_at i j e l) (ap (λ (b : Bool). cond b 1 0) (sym (met_is whole s (o + j) i (omega arith)))))
+      ap₂ (λ (x y : ℕ). x + cond (eqb (get_or s y 0) (get_or pilots i 0)) 1 0) (counts_at i j e l) at ∙ agreeing_more s (o + j) i (omega arith))
 
   -- a block whose counts are all so small has no lock
   pub block_closed : (most : ℕ) {right : List ℕ} → right ≡ counts s o 32 → ((j : ℕ) → j < 128 → get_or right j 0 ≤ most) → most < least_right

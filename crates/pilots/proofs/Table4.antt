@@ -1,5 +1,5 @@
--- What specs/statements/Pilots states: table 5 is what table 4 produces, its bytes are four labels each, two in each half, and only outer levels occur in it.
--- By tests that antt computes.
+-- What specs/statements/Pilots states: table 5 is what table 4 produces, its bytes are four labels each, and only outer levels occur in it. All three are
+-- tests that antt computes.
 -- Assumes nothing.
 use mathlib.Core.Path.{◌≡◌, refl}
 use mathlib.Core.Bool.{Bool}
@@ -14,8 +14,8 @@ use Rattle.bits.proofs.Table.{each, range_rule}
 use Rattle.pilots.specs.declared.Level.TheVariants as level
 use Rattle.pilots.specs.definitions.Levels.{level_of}
 use Rattle.pilots.specs.definitions.Table5.{pilots}
-use Rattle.pilots.specs.definitions.Pilots.{register_next, leaves, labels_of, pilot_of, pilot_label, x_half, y_half}
-use Rattle.pilots.specs.statements.Pilots.{TablesAgree, PilotLabels, PilotHalves, OuterLevels}
+use Rattle.pilots.specs.definitions.Pilots.{register_next, leaves, labels_of, pilot_of, pilot_label}
+use Rattle.pilots.specs.statements.Pilots.{TablesAgree, PilotLabels, OuterLevels}
 
 -- table 5 is what the polynomial and the seeds of table 4 produce
 pub tables_agree : TablesAgree
@@ -32,10 +32,6 @@ labels_test = tt
 pub pilot_labels : PilotLabels
 unfolding labels_ok
 pilot_labels k h = eqb→eq _ _ (range_rule labels_ok 96 0 labels_test k (omega arith) (omega arith))
-
-pub pilot_halves : PilotHalves
-unfolding x_half y_half pilot_label
-pilot_halves k h = let e = pilot_labels k h in (omega arith, omega arith)
 
 outer_ok : ℕ → Bool
 outer_ok k = each (λ t. eqb (pilot_label k t % 2) 0) 4 0

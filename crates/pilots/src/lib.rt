@@ -1,15 +1,15 @@
 // Labels and levels, the pilots, the rule of lock, the first offset of a run that keeps it, and the rule over symbols kept in columns.
-ghost use Rattle.std.specs.Prelude.{◌≡◌, cond, ◌&&◌, ℕ, ◌+◌, ◌*◌, ◌-◌, ◌%◌, ◌<◌, ◌≤◌, eqb, ltb, length, get_or};
+ghost use Rattle.std.specs.Prelude.{◌≡◌, cond, not, ℕ, ◌+◌, ◌*◌, ◌<◌, ◌≤◌, eqb, ltb, length, get_or};
 ghost use Rattle.bits.specs.definitions.Bits.{tabulate, count, least};
 ghost use Rattle.pilots.specs.definitions.Levels.{level_of, label_of};
 ghost use Rattle.pilots.specs.definitions.Table5.{pilots};
-ghost use Rattle.pilots.specs.definitions.Pilots.{x_half, y_half, lock_limit, locks, whole, first_lock, column_frame, locked_column};
-ghost use Rattle.pilots.specs.private.Pilots.{OneMore, PilotsThere, HalvesRight, agreeing, counts, first_pilots, next_pilots};
+ghost use Rattle.pilots.specs.definitions.Pilots.{met, lock_limit, locks, first_lock, column_frame, locked_column};
+ghost use Rattle.pilots.specs.private.Pilots.{agreeing, counts, first_pilots, next_pilots};
 
 mod groups;
 mod tables;
 
-// A shortcut of the search, no rule: with fewer right of 32 pilots, whichever they are, 25 differ, so 13 or more in one half, and there is no lock.
+// With fewer right of 32 pilots, whichever they are, 25 are wrong, and there is no lock.
 const LEAST_RIGHT: u8 = 8;
 
 // A label's signed level.
@@ -24,14 +24,6 @@ pub enum Level {
 pub enum Label {
     Is(u8),
     None,
-}
-
-// How many pilots are right in their X half, and how many in their Y half. Numbers of 64 bits: with bytes the compiler prepares to gather sixteen symbols, at a
-// cost to every call of a search in pieces.
-#[derive(Drop)]
-struct Right {
-    x: u64,
-    y: u64,
 }
 
 // The level of a two-bit label.
@@ -67,89 +59,46 @@ pub fn pilots() -> [u8; 96]
     tables::PILOTS
 }
 
-// 1 where a symbol is the pilot, or a half the pilot's, else 0.
-fn agrees(symbol: u8, pilot: u8) -> u8
-    ensures { result ≡ cond (eqb symbol pilot) 1 0 }
-{
-    if symbol == pilot {
-        return 1;
-    }
-    0
-}
-
-// One pilot more, read once: whether the symbol has its X half, and its Y half.
-fn one_more(right: Right, symbol: u8, pilot: u8) -> Right
-    requires { (right.x < 96) × (right.y < 96) }
-    ensures { OneMore right (eqb (x_half symbol) (x_half pilot)) (eqb (y_half symbol) (y_half pilot)) result }
-{
-    let x = agrees(symbol / 16, pilot / 16);
-    let y = agrees(symbol % 16, pilot % 16);
-    Right {
-        x: right.x + bits::wide8(x),
-        y: right.y + bits::wide8(y),
-    }
-}
-
-// How many of the 96 pilots have a symbol in their place: one for each 64 symbols that are begun.
-fn pilots_there(symbols: &[u8], offset: usize) -> usize
-    ensures { PilotsThere (length symbols.now) offset result }
+// 1 where pilot i differs or is missing, else 0.
+fn wrong(t: &[u8; 96], symbols: &[u8], offset: usize, i: usize) -> u64
+    requires t_value { t.now ≡ pilots }
+    requires i_bound { i < 96 }
+    ensures { result ≡ cond (not (met symbols.now offset i)) 1 0 }
 {
     if symbols.len() <= offset {
+        return 1;
+    }
+    let step = 64 * i;
+    if symbols.len() - offset <= step {
+        return 1;
+    }
+    let x = symbols[offset + step];
+    let y = t[i];
+    if x == y {
         return 0;
     }
-    let there = (symbols.len() - offset - 1) / 64 + 1;
-    if there < 96 {
-        return there;
-    }
-    96
+    1
 }
 
-// The rule of lock, by how many of the 96 pilots are right: fewer than 13 differ in X, and fewer than 13 in Y.
-fn few_differ(right: Right) -> bool
-    requires { (right.x ≤ 96) × (right.y ≤ 96) }
-    ensures { result ≡ ltb (96 - right.x) lock_limit && ltb (96 - right.y) lock_limit }
+// So few pilots that differ are a lock.
+fn few(wrong: u64) -> bool
+    ensures { result ≡ ltb wrong lock_limit }
 {
-    if 96 - right.x < 13 {
-        return 96 - right.y < 13;
-    }
-    false
+    wrong < 25
 }
 
-// How many of the first m pilots are right, pilot i standing at symbol offset + 64 i.
-fn halves_right(t: &[u8; 96], symbols: &[u8], offset: usize, m: usize) -> Right
-    requires t_value { t.now ≡ pilots }
-    requires m_bound { (m ≤ 96) × ((i : ℕ) → i < m → offset + 64 * i < length symbols.now) }
-    ensures { HalvesRight symbols.now offset m result }
-{
-    let mut n = Right { x: 0, y: 0 };
-    let mut i: usize = 0;
-    while i < m {
-        let symbol = symbols[offset + 64 * i];
-        let pilot = t[i];
-        n = one_more(n, symbol, pilot);
-        i += 1;
-    }
-    n
-}
-
-// The rule over any string: a pilot that has no symbol is right in no half.
+// The rule of lock: fewer than 25 of the 96 pilots differ, pilot i standing at symbol offset + 64 i.
 fn locks_at(t: &[u8; 96], symbols: &[u8], offset: usize) -> bool
     requires { t.now ≡ pilots }
     ensures { result ≡ locks symbols.now offset }
 {
-    let there = pilots_there(symbols, offset);
-    let right = halves_right(t, symbols, offset, there);
-    few_differ(right)
-}
-
-// The rule where a whole frame is there: of a loop of 96 the compiler makes more than of one whose length it does not know.
-fn locks_whole(t: &[u8; 96], symbols: &[u8], offset: usize) -> bool
-    requires t_value { t.now ≡ pilots }
-    requires offset_in_bounds { offset + 6144 ≤ length symbols.now }
-    ensures { result ≡ locks symbols.now offset }
-{
-    let right = halves_right(t, symbols, offset, 96);
-    few_differ(right)
+    let mut n: u64 = 0;
+    let mut i: usize = 0;
+    while i < 96 {
+        n += wrong(t, symbols, offset, i);
+        i += 1;
+    }
+    few(n)
 }
 
 // The same, with the table.
@@ -158,6 +107,16 @@ pub fn locks(symbols: &[u8], offset: usize) -> bool
 {
     let t = pilots();
     locks_at(&t, symbols, offset)
+}
+
+// 1 where a symbol is the pilot, else 0.
+fn agrees(symbol: u8, pilot: u8) -> u8
+    ensures { result ≡ cond (eqb symbol pilot) 1 0 }
+{
+    if symbol == pilot {
+        return 1;
+    }
+    0
 }
 
 // One pilot at 128 neighbouring offsets, the first of which has its symbol at `at`: one loop over plain bytes, which the compiler takes sixteen at a time.
@@ -217,13 +176,13 @@ fn largest(right: &[u8; 128]) -> u8
 // The rule of lock where so many of the first 32 pilots are right: with too few it is broken already, and nothing is read.
 fn locks_with(t: &[u8; 96], symbols: &[u8], offset: usize, right: u8) -> bool
     requires t_value { t.now ≡ pilots }
-    requires offset_in_bounds { (offset + 6144 ≤ length symbols.now) × (right ≡ agreeing whole symbols.now offset 32) }
+    requires offset_in_bounds { (offset + 6144 ≤ length symbols.now) × (right ≡ agreeing symbols.now offset 32) }
     ensures { result ≡ locks symbols.now offset }
 {
     if right < LEAST_RIGHT {
         return false;
     }
-    locks_whole(t, symbols, offset)
+    locks_at(t, symbols, offset)
 }
 
 // The first of 128 neighbouring offsets that locks, each count of right pilots given; 128 where none does.
@@ -267,7 +226,7 @@ fn first_of(t: &[u8; 96], symbols: &[u8], offset: usize, n: usize) -> usize
     let mut j: usize = 0;
     while j < n {
         let here = offset + j;
-        if locks_whole(t, symbols, here) {
+        if locks_at(t, symbols, here) {
             return j;
         }
         j += 1;
@@ -313,34 +272,34 @@ fn agreeing_in(group: &[u8; 32], column: &[u8], at: usize) -> u8
     n
 }
 
-// The row of pilot i in a column that has the first at row `first`: behind it and round.
-fn row_of(first: usize, i: usize) -> usize
-    requires { (first < 96) × (i < 96) }
-    ensures { result ≡ (first + i) % 96 }
+// 1 where pilot i differs in a column that has the first at row `first`, else 0.
+fn wrong_in(t: &[u8; 96], column: &[u8], first: usize, i: usize) -> u64
+    requires t_value { t.now ≡ pilots }
+    requires column_len { (length column.now ≡ 96) × (first < 96) × (i < 96) }
+    ensures { result ≡ cond (not (met (column_frame column.now first) 0 i)) 1 0 }
 {
-    let row = first + i;
-    if row < 96 {
-        return row;
+    let row = (first + i) % 96;
+    let x = column[row];
+    let y = t[i];
+    if x == y {
+        return 0;
     }
-    row - 96
+    1
 }
 
-// The rule over a column that has the first pilot's symbol at row `first`.
+// The rule of lock over a column that has the first pilot's symbol at row `first`.
 fn column_locks(column: &[u8], first: usize) -> bool
     requires { (length column.now ≡ 96) × (first < 96) }
     ensures { result ≡ locks (column_frame column.now first) 0 }
 {
     let t = pilots();
-    let mut n = Right { x: 0, y: 0 };
+    let mut n: u64 = 0;
     let mut i: usize = 0;
     while i < 96 {
-        let row = row_of(first, i);
-        let symbol = column[row];
-        let pilot = t[i];
-        n = one_more(n, symbol, pilot);
+        n += wrong_in(&t, column, first, i);
         i += 1;
     }
-    few_differ(n)
+    few(n)
 }
 
 // The first 32 pilots: a table so small costs little with each symbol.

@@ -15,8 +15,7 @@ use second::lanes::{LANES_BYTES, STORE_BYTES};
 use second::receive::receive;
 use second::run::{Run, Stop};
 use second::send::send;
-use second::spoil::{lock_with, spoil_any, Wrong, ALL_WRONG, MOST_WITH_LOCK, NONE_WRONG};
-use second::symbols::{bit_place, FRAME_SYMBOLS};
+use second::symbols::{bit_place, FRAME_SYMBOLS, NO_LOCK, PILOT_COUNT, ROW_SYMBOLS};
 use second::word::{FRAME_WORDS, WORD_BITS};
 use second::xorshift::Xorshift;
 use std::ffi::OsString;
@@ -26,7 +25,7 @@ use std::{env, fs, thread};
 
 /// Odd, so that no two captures have the same seed.
 const SEED: u64 = 0x6154_0018_0006_0B0B;
-const POOL_SEED: u64 = 0x0384_6144_0012_0013;
+const POOL_SEED: u64 = 0x0384_6144_0024_0025;
 
 /// No more frames in a capture, so that many captures take little time.
 const MOST_FRAMES: usize = 5;
@@ -66,7 +65,7 @@ impl Pool {
     fn new() -> Self {
         let mut random = Xorshift::new(POOL_SEED);
         let mut store = [0; STORE_BYTES];
-        let mut frames = |count: usize, wrong_pilots: &[Wrong]| {
+        let mut frames = |count: usize, wrong_pilots: &[usize]| {
             (0..count)
                 .map(|n| {
                     let pilots = wrong_pilots[n / 5 % wrong_pilots.len()];
@@ -75,15 +74,15 @@ impl Pool {
                 .collect()
         };
         Pool {
-            locked: frames(40, &[NONE_WRONG, MOST_WITH_LOCK, [0, 0, 12], [1, 0, 0]]),
-            lost: frames(20, &[[13, 0, 0], [0, 13, 0], [12, 12, 1], ALL_WRONG]),
+            locked: frames(40, &[0, NO_LOCK - 1, 0, 1]),
+            lost: frames(15, &[NO_LOCK, NO_LOCK + 1, PILOT_COUNT]),
         }
     }
 }
 
 /// The next frame of a sender's run: clean, or up to two flips in some words, or up to six in a few
 /// words, or up to six in every word, or in those about the first that a run's second frame tallies.
-fn frame(random: &mut Xorshift, store: &mut [u8], damage: usize, wrong_pilots: Wrong) -> Frame {
+fn frame(random: &mut Xorshift, store: &mut [u8], damage: usize, wrong_pilots: usize) -> Frame {
     let lanes = random.bytes(LANES_BYTES);
     let mut symbols = [0; FRAME_SYMBOLS];
     assert_eq!(send(&lanes, store, &mut symbols), 0);
@@ -103,11 +102,13 @@ fn frame(random: &mut Xorshift, store: &mut [u8], damage: usize, wrong_pilots: W
             symbols[symbol] ^= bit;
         }
     }
-    spoil_any(random, &mut symbols, wrong_pilots);
+    for pilot in random.choose(PILOT_COUNT, wrong_pilots) {
+        symbols[ROW_SYMBOLS * pilot] ^= 1 + random.below(255) as u8;
+    }
     let mut flags = [0; FRAME_WORDS];
     let mut lanes = [0; LANES_BYTES];
     let refusal = receive(&symbols, &mut [0; STORE_BYTES], &mut lanes, &mut flags);
-    assert_eq!(refusal, if lock_with(wrong_pilots) { 0 } else { 5 });
+    assert_eq!(refusal, if wrong_pilots < NO_LOCK { 0 } else { 5 });
     Frame { symbols, flags }
 }
 

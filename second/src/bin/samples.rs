@@ -8,8 +8,7 @@ use second::capture::{frame_record, order_record, Order, FRAME_RECORD, KIND_PLAC
 use second::lanes::{LANES_BYTES, STORE_BYTES};
 use second::run::Run;
 use second::send::send;
-use second::spoil::{spoil_any, swap_polarisations, Wrong, MOST_WITH_LOCK, NONE_WRONG};
-use second::symbols::{bit_place, FRAME_SYMBOLS};
+use second::symbols::{bit_place, FRAME_SYMBOLS, PILOT_COUNT, ROW_SYMBOLS};
 use second::word::{FRAME_WORDS, WORD_BITS};
 use second::xorshift::Xorshift;
 use std::io;
@@ -74,7 +73,7 @@ impl Sample {
 
     /// The next frame of the run with so many wrong pilots, and so many words with one flip, with
     /// two and with three: of the second frame tallied ones. Gives the place of its record.
-    fn frame(&mut self, number: u32, wrong_pilots: Wrong, hit: [usize; 3]) -> usize {
+    fn frame(&mut self, number: u32, wrong_pilots: usize, hit: [usize; 3]) -> usize {
         let words = match number.wrapping_sub(self.start) {
             1 => FILL_OF_SECOND.end..FRAME_WORDS,
             _ => 0..FRAME_WORDS,
@@ -87,12 +86,16 @@ impl Sample {
         &mut self,
         hit_in: Range<usize>,
         number: u32,
-        wrong_pilots: Wrong,
+        wrong_pilots: usize,
         hit: [usize; 3],
     ) -> usize {
         let mut symbols = self.sent();
         let random = &mut self.random;
-        spoil_any(random, &mut symbols, wrong_pilots);
+        let mut pilots = vec![];
+        for _ in 0..wrong_pilots {
+            let pilot = another(random, &(0..PILOT_COUNT), &mut pilots);
+            symbols[ROW_SYMBOLS * pilot] ^= 1 + random.below(255) as u8;
+        }
         // Three flips come last: one word more of them leaves all others as they are.
         let mut words = vec![];
         for (count, flips) in hit.into_iter().zip(1..) {
@@ -111,13 +114,6 @@ impl Sample {
         place
     }
 
-    /// The next frame of the run with its polarisations swapped in this part.
-    fn frame_swapped_in(&mut self, part: Range<usize>, number: u32) {
-        let mut symbols = self.sent();
-        swap_polarisations(&mut symbols[part]);
-        self.capture.extend(frame_record(number, &symbols));
-    }
-
     /// The next frame of the run is sent but not captured.
     fn leave_out(&mut self) {
         self.sent();
@@ -129,38 +125,37 @@ impl Sample {
 /// first is fill.
 fn measured(sample: &mut Sample, flagged: usize) {
     sample.order(1_000, 3, 3);
-    sample.frame(1_000, NONE_WRONG, [30, 20, 1]);
-    sample.frame(1_001, MOST_WITH_LOCK, [5, 7, 1]);
-    sample.frame(1_002, NONE_WRONG, [11, 3, flagged]);
+    sample.frame(1_000, 0, [30, 20, 1]);
+    sample.frame(1_001, 24, [5, 7, 1]);
+    sample.frame(1_002, 0, [11, 3, flagged]);
 }
 
 type Make = fn(&mut Sample);
 
 /// Name, number of the seed, and how it is made. `pass` and `fail` have the same seed, so that they
 /// differ in one word only.
-const SAMPLES: [(&str, u64, Make); 31] = [
+const SAMPLES: [(&str, u64, Make); 30] = [
     ("pass", 1, |sample| measured(sample, 2)),
     ("fail", 1, |sample| measured(sample, 3)),
     ("gap", 2, |sample| {
         sample.order(20, 3, 5);
-        sample.frame(20, NONE_WRONG, [2, 1, 0]);
+        sample.frame(20, 0, [2, 1, 0]);
         sample.leave_out();
-        sample.frame(22, NONE_WRONG, [0, 3, 1]);
+        sample.frame(22, 0, [0, 3, 1]);
     }),
     // One byte is missing.
     ("cut", 3, |sample| {
         sample.order(30, 3, 5);
-        sample.frame(30, NONE_WRONG, [1, 0, 0]);
-        sample.frame(31, NONE_WRONG, [0, 1, 0]);
-        sample.frame(32, NONE_WRONG, [0, 0, 1]);
+        sample.frame(30, 0, [1, 0, 0]);
+        sample.frame(31, 0, [0, 1, 0]);
+        sample.frame(32, 0, [0, 0, 1]);
         sample.capture.pop();
     }),
-    // By its X half alone: it has fewer wrong bytes than the second frame of `pass`, which locks.
     ("no_lock", 4, |sample| {
         sample.order(40, 3, 5);
-        sample.frame(40, NONE_WRONG, [4, 0, 0]);
-        sample.frame(41, [13, 0, 0], [9, 9, 9]);
-        sample.frame(42, NONE_WRONG, [0, 6, 2]);
+        sample.frame(40, 0, [4, 0, 0]);
+        sample.frame(41, 25, [9, 9, 9]);
+        sample.frame(42, 0, [0, 6, 2]);
     }),
     ("lone_order", 5, |sample| sample.order(0, 1, 0)),
     ("refusal_6", 6, |sample| {
@@ -169,16 +164,16 @@ const SAMPLES: [(&str, u64, Make); 31] = [
     }),
     ("refusal_7", 7, |sample| {
         sample.order(70, 2, 0);
-        sample.frame(70, NONE_WRONG, NO_FLIPS);
-        sample.frame(71, NONE_WRONG, [3, 2, 0]);
+        sample.frame(70, 0, NO_FLIPS);
+        sample.frame(71, 0, [3, 2, 0]);
         sample.capture.extend([0, 0, 0, 15, 1, 0]);
         sample.capture.extend([0; 13]);
     }),
     ("refusal_8", 8, |sample| {
         sample.order(80, 2, 0);
-        sample.frame(80, NONE_WRONG, NO_FLIPS);
-        sample.frame(81, NONE_WRONG, [1, 5, 0]);
-        let place = sample.frame(82, NONE_WRONG, NO_FLIPS);
+        sample.frame(80, 0, NO_FLIPS);
+        sample.frame(81, 0, [1, 5, 0]);
+        let place = sample.frame(82, 0, NO_FLIPS);
         sample.capture[place + VERSION_PLACE] = 2;
     }),
     // It comes first: taken as an order, it would be the one that is printed.
@@ -186,130 +181,123 @@ const SAMPLES: [(&str, u64, Make); 31] = [
         sample.order(90, 7, 0);
         sample.capture[KIND_PLACE] = 1;
         sample.order(90, 2, 0);
-        sample.frame(90, NONE_WRONG, NO_FLIPS);
-        sample.frame(91, NONE_WRONG, NO_FLIPS);
+        sample.frame(90, 0, NO_FLIPS);
+        sample.frame(91, 0, NO_FLIPS);
     }),
     ("refusal_9_kind_2", 10, |sample| {
         sample.order(100, 2, 1);
-        sample.frame(100, NONE_WRONG, NO_FLIPS);
-        sample.frame(101, NONE_WRONG, [0, 8, 1]);
-        let place = sample.frame(102, NONE_WRONG, NO_FLIPS);
+        sample.frame(100, 0, NO_FLIPS);
+        sample.frame(101, 0, [0, 8, 1]);
+        let place = sample.frame(102, 0, NO_FLIPS);
         sample.capture[place + KIND_PLACE] = 2;
     }),
     ("refusal_10", 11, |sample| {
         sample.order(110, 2, 0);
-        sample.frame(110, NONE_WRONG, NO_FLIPS);
-        sample.frame(111, NONE_WRONG, [7, 0, 0]);
-        sample.frame(109, NONE_WRONG, NO_FLIPS);
+        sample.frame(110, 0, NO_FLIPS);
+        sample.frame(111, 0, [7, 0, 0]);
+        sample.frame(109, 0, NO_FLIPS);
     }),
     // The first gap is as long as it may be. The last frame is the one expected.
     ("refusal_11", 12, |sample| {
         sample.order(120, 2, 0);
-        sample.frame(1_000_120, NONE_WRONG, [1, 1, 0]);
-        sample.frame(1_000_122, NONE_WRONG, NO_FLIPS);
-        sample.frame(1_000_121, NONE_WRONG, NO_FLIPS);
+        sample.frame(1_000_120, 0, [1, 1, 0]);
+        sample.frame(1_000_122, 0, NO_FLIPS);
+        sample.frame(1_000_121, 0, NO_FLIPS);
     }),
     ("late_no_lock", 13, |sample| {
         sample.order(130, 2, 0);
-        sample.frame(130, NONE_WRONG, NO_FLIPS);
-        sample.frame(131, NONE_WRONG, [2, 2, 0]);
-        sample.frame(131, [0, 13, 0], NO_FLIPS);
+        sample.frame(130, 0, NO_FLIPS);
+        sample.frame(131, 0, [2, 2, 0]);
+        sample.frame(131, 25, NO_FLIPS);
     }),
     ("wrap", 14, |sample| {
         sample.order(4_294_967_294, 3, 1);
-        sample.frame(4_294_967_294, NONE_WRONG, [10, 0, 0]);
-        sample.frame(4_294_967_295, NONE_WRONG, [0, 10, 0]);
-        sample.frame(0, NONE_WRONG, [0, 0, 1]);
+        sample.frame(4_294_967_294, 0, [10, 0, 0]);
+        sample.frame(4_294_967_295, 0, [0, 10, 0]);
+        sample.frame(0, 0, [0, 0, 1]);
     }),
     // The same record twice, then the frame expected.
     ("twice", 15, |sample| {
         sample.order(150, 3, 0);
-        sample.frame(150, NONE_WRONG, NO_FLIPS);
-        let place = sample.frame(151, NONE_WRONG, [6, 1, 0]);
+        sample.frame(150, 0, NO_FLIPS);
+        let place = sample.frame(151, 0, [6, 1, 0]);
         let whole = place..place + FRAME_RECORD;
         sample.capture.extend_from_within(whole);
-        sample.frame(152, NONE_WRONG, NO_FLIPS);
+        sample.frame(152, 0, NO_FLIPS);
     }),
     ("order_of_0", 16, |sample| sample.order(160, 0, 0)),
     ("order_of_0_with_frame", 17, |sample| {
         sample.order(170, 0, 0);
-        sample.frame(170, NONE_WRONG, [1, 0, 0]);
+        sample.frame(170, 0, [1, 0, 0]);
     }),
     ("empty", 18, |_| {}),
     // With its frames the second order alone would pass.
     ("second_order", 19, |sample| {
         sample.order(190, 2, 4);
-        sample.frame(190, NONE_WRONG, NO_FLIPS);
-        sample.frame(191, NONE_WRONG, [0, 0, 4]);
+        sample.frame(190, 0, NO_FLIPS);
+        sample.frame(191, 0, [0, 0, 4]);
         sample.order(192, 2, 9);
-        sample.frame(192, NONE_WRONG, NO_FLIPS);
-        sample.frame(193, NONE_WRONG, NO_FLIPS);
+        sample.frame(192, 0, NO_FLIPS);
+        sample.frame(193, 0, NO_FLIPS);
     }),
     ("trailing", 20, |sample| {
         sample.order(200, 2, 1);
-        sample.frame(200, NONE_WRONG, [0, 2, 0]);
-        sample.frame(201, NONE_WRONG, [2, 0, 1]);
+        sample.frame(200, 0, [0, 2, 0]);
+        sample.frame(201, 0, [2, 0, 1]);
         sample.capture.extend([0, 0, 0]);
     }),
     // Without its first frame it would pass.
     ("frame_first", 21, |sample| {
-        sample.frame(0, NONE_WRONG, [1, 1, 1]);
+        sample.frame(0, 0, [1, 1, 1]);
         sample.order(0, 2, 0);
-        sample.frame(0, NONE_WRONG, NO_FLIPS);
-        sample.frame(1, NONE_WRONG, NO_FLIPS);
+        sample.frame(0, 0, NO_FLIPS);
+        sample.frame(1, 0, NO_FLIPS);
     }),
     ("one_more", 22, |sample| {
         sample.order(220, 2, 9);
-        sample.frame(220, NONE_WRONG, [3, 0, 0]);
-        sample.frame(221, NONE_WRONG, [0, 3, 0]);
-        sample.frame(222, NONE_WRONG, [0, 0, 3]);
+        sample.frame(220, 0, [3, 0, 0]);
+        sample.frame(221, 0, [0, 3, 0]);
+        sample.frame(222, 0, [0, 0, 3]);
     }),
     ("one_less", 23, |sample| {
         sample.order(230, 3, 9);
-        sample.frame(230, NONE_WRONG, [5, 0, 0]);
-        sample.frame(231, NONE_WRONG, [0, 5, 5]);
+        sample.frame(230, 0, [5, 0, 0]);
+        sample.frame(231, 0, [0, 5, 5]);
     }),
     ("order_above_limit", 24, |sample| {
         sample.order(240, 1_000_001, 0);
-        sample.frame(240, NONE_WRONG, [0, 4, 0]);
+        sample.frame(240, 0, [0, 4, 0]);
     }),
     ("last_lost", 25, |sample| {
         sample.order(250, 2, 0);
-        sample.frame(250, NONE_WRONG, [8, 0, 0]);
-        sample.frame(251, MOST_WITH_LOCK, [0, 8, 0]);
-        sample.frame(252, [12, 12, 1], NO_FLIPS);
+        sample.frame(250, 0, [8, 0, 0]);
+        sample.frame(251, 24, [0, 8, 0]);
+        sample.frame(252, 25, NO_FLIPS);
     }),
     // All fill, and so nothing is measured.
     ("order_of_1", 26, |sample| {
         sample.order(260, 1, 0);
-        sample.frame(260, NONE_WRONG, NO_FLIPS);
+        sample.frame(260, 0, NO_FLIPS);
     }),
     // The second number of the run is behind the end.
     ("order_of_2", 27, |sample| {
         sample.order(4_294_967_295, 2, 0);
-        sample.frame(4_294_967_295, NONE_WRONG, NO_FLIPS);
-        sample.frame(0, NONE_WRONG, [4, 3, 0]);
+        sample.frame(4_294_967_295, 0, NO_FLIPS);
+        sample.frame(0, 0, [4, 3, 0]);
     }),
     // Tallied with the others, it would fail.
     ("fill_flagged", 28, |sample| {
         sample.order(280, 3, 0);
-        sample.frame(280, NONE_WRONG, [9, 8, 20]);
-        sample.frame_hit_in(FILL_OF_SECOND, 281, NONE_WRONG, [7, 6, 10]);
-        sample.frame(282, NONE_WRONG, [5, 4, 0]);
+        sample.frame(280, 0, [9, 8, 20]);
+        sample.frame_hit_in(FILL_OF_SECOND, 281, 0, [7, 6, 10]);
+        sample.frame(282, 0, [5, 4, 0]);
     }),
     // The second number tallies 320 words, though it is the first frame accepted.
     ("first_lost", 29, |sample| {
         sample.order(290, 2, 9);
-        sample.frame(290, [0, 0, 13], NO_FLIPS);
-        sample.frame(291, NONE_WRONG, [3, 1, 2]);
-        sample.frame(292, NONE_WRONG, [1, 4, 1]);
-    }),
-    // With right pilots it would pass: as many flagged words are allowed as the part has words.
-    ("swapped", 30, |sample| {
-        sample.order(300, 3, 96);
-        sample.frame(300, NONE_WRONG, NO_FLIPS);
-        sample.frame_swapped_in(2_000..3_500, 301);
-        sample.frame(302, NONE_WRONG, NO_FLIPS);
+        sample.frame(290, 25, NO_FLIPS);
+        sample.frame(291, 0, [3, 1, 2]);
+        sample.frame(292, 0, [1, 4, 1]);
     }),
 ];
 
@@ -350,7 +338,6 @@ mod tests {
     use super::*;
     use second::receive::receive;
     use second::run::Stop;
-    use second::symbols::PILOTS;
 
     /// A frame's record, an order's, and what `refusal_7` has behind the frame.
     const F: usize = 6_154;
@@ -364,7 +351,7 @@ mod tests {
     type Expected = (&'static str, usize, [u32; 7], &'static str, Option<Stop>);
 
     #[rustfmt::skip]
-    const EXPECTED: [Expected; 31] = [
+    const EXPECTED: [Expected; 30] = [
         ("pass", O + 3 * F, [3, 3, 0, 675, 16, 10, 3], "PASS", None),
         ("fail", O + 3 * F, [3, 3, 0, 674, 16, 10, 4], "FAIL", None),
         ("gap", O + 2 * F, [3, 2, 1, 380, 0, 3, 1], NOT_MEASURED, None),
@@ -395,7 +382,6 @@ mod tests {
         ("order_of_2", O + 2 * F, [2, 2, 0, 313, 4, 3, 0], "PASS", None),
         ("fill_flagged", O + 3 * F, [3, 3, 0, 695, 5, 4, 0], "PASS", None),
         ("first_lost", O + 3 * F, [2, 2, 1, 692, 4, 5, 3], NOT_MEASURED, None),
-        ("swapped", O + 3 * F, [3, 2, 1, 384, 0, 0, 0], NOT_MEASURED, None),
     ];
 
     #[test]
@@ -460,45 +446,6 @@ mod tests {
                 [0, 64].map(|from| flags[from..].iter().filter(|&&flag| flag == 3).count())
             })
             .collect()
-    }
-
-    /// How many pilots of each frame behind the order differ in X, in Y, and in whichever half.
-    fn differ(capture: &[u8]) -> Vec<[usize; 3]> {
-        let records = capture[O..].chunks(F);
-        records
-            .map(|record| {
-                let symbols = &record[F - FRAME_SYMBOLS..];
-                [0xF0, 0x0F, 0xFF].map(|half| {
-                    let differs = |n: &usize| (symbols[64 * n] ^ PILOTS[*n]) & half != 0;
-                    (0..96).filter(differs).count()
-                })
-            })
-            .collect()
-    }
-
-    #[test]
-    fn where_pilots_differ() {
-        const NONE: [usize; 3] = [0; 3];
-        for name in ["pass", "fail"] {
-            assert_eq!(differ(&named(name)), [NONE, [12, 12, 24], NONE]);
-        }
-        assert_eq!(differ(&named("no_lock")), [NONE, [13, 0, 13], NONE]);
-        assert_eq!(differ(&named("late_no_lock")), [NONE, NONE, [0, 13, 13]]);
-        let last_lost = [NONE, [12, 12, 24], [13, 13, 25]];
-        assert_eq!(differ(&named("last_lost")), last_lost);
-        assert_eq!(differ(&named("first_lost")), [[13; 3], NONE, NONE]);
-        // Fewer bytes than in the frame of `pass` that locks.
-        assert_eq!(differ(&named("swapped")), [NONE, [19; 3], NONE]);
-    }
-
-    #[test]
-    fn with_right_pilots_the_swapped_frame_would_pass() {
-        let mut capture = named("swapped");
-        for (n, pilot) in PILOTS.into_iter().enumerate() {
-            capture[O + 2 * F - FRAME_SYMBOLS + 64 * n] = pilot;
-        }
-        assert_eq!(flagged(&capture), [[0; 2], [77; 2], [0; 2]]);
-        assert!(Run::of(&capture).report().ends_with("\nverdict PASS\n"));
     }
 
     #[test]

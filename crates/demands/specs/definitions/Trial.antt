@@ -39,9 +39,9 @@ Accepted {n = n} t = (f : ℕ) → f < n → t.numbers f ≡ 0
 unfoldable pub flips_in : (ℕ → List ℕ) → ℕ → ℕ → ℕ
 flips_in flips p w = distance (arrived (flips (w / 12)) (32 * (w % 12) + p)) 0
 
--- how many of the 96 pilots are hit in a half
-unfoldable pub hit_pilots : (ℕ → ℕ) → List ℕ → ℕ
-hit_pilots half flips = count (λ k. not (eqb (half (get_or flips (64 * k) 0)) 0)) 96
+-- how many of the 96 pilot bytes are hit
+unfoldable pub hit_pilots : List ℕ → ℕ
+hit_pilots flips = count (λ k. not (eqb (get_or flips (64 * k) 0) 0)) 96
 
 -- bit i of lane p has come back wrong: it differs from what receiving the undamaged frames returns at its place
 abbrev pub Wrong : {ex : Places} {n : ℕ} {flips lanes room outs flag_buffers : ℕ → List ℕ} → Trial ex n flips lanes room outs flag_buffers → ℕ → ℕ → Type 0

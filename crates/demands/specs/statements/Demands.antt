@@ -9,15 +9,12 @@ use Rattle.traffic.specs.statements.Traffic.{FrameFrom, OneAfterTheOther, OneSeq
 use Rattle.traffic.specs.statements.Checker.{Compared, CountsExactly, ChecksExist}
 use Rattle.traffic.specs.statements.Refusals.{FrameRefusals, NextRefusals, CheckRefusals}
 use Rattle.traffic.specs.statements.Figures.{TrafficFigures}
-use Rattle.pilots.specs.statements.Pilots.{PilotHalves}
-use Rattle.pilots.specs.statements.Halves.{NoLockExactly, OldFollows, LockedBytes, TwelveAndTwelve, LockFigures, PilotsOnly}
-use Rattle.pilots.specs.statements.Halves.{SwappedExactly, SwappedFigures, MissingDiffers}
 use Rattle.hunt.specs.statements.Hunt.{FoundExactly, NoneExactly, ShortExactly, NoOther, FoundByThen, HoweverCut, AllFed, AllTaken, FrameKept}
 use Rattle.hunt.specs.statements.Hunt.{FeedRefusals, AnswerExactly, CanBeFed}
 use Rattle.framing.specs.statements.Places.{BasePlaces}
 use Rattle.framing.specs.statements.Stream.{BlockRule}
 use Rattle.framing.specs.statements.Figures.{BenchFigures}
-use Rattle.demands.specs.statements.Refusals.{Refusals, TwentyFourAccepted}
+use Rattle.demands.specs.statements.Refusals.{Refusals}
 use Rattle.demands.specs.statements.Symbols.{SymbolRule}
 use Rattle.demands.specs.statements.Return.{Return, UndamagedExist, OneFrame}
 use Rattle.demands.specs.statements.Stores.{StoresHold, LastKept}
@@ -138,16 +135,3 @@ pub record Demands : Type 0 where
   pub frame_kept : FrameKept
   pub feed_refusals : FeedRefusals
   pub answer_exactly : AnswerExactly
-  -- 02, request 05: no lock exactly when, and that the old limit follows; what 24 that differ are, of a string and of a call; the figures; polarisations
-  -- exchanged in part of a frame; that lock reads pilots only; which labels the halves are; and that a missing symbol differs in both
-  pub no_lock_exactly : NoLockExactly
-  pub old_follows : OldFollows
-  pub locked_bytes : LockedBytes
-  pub twelve_and_twelve : TwelveAndTwelve
-  pub twenty_four_accepted : TwentyFourAccepted
-  pub lock_figures : LockFigures
-  pub swapped_exactly : SwappedExactly
-  pub swapped_figures : SwappedFigures
-  pub pilots_only : PilotsOnly
-  pub pilot_halves : PilotHalves
-  pub missing_differs : MissingDiffers

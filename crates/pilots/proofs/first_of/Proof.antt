@@ -21,15 +21,15 @@ loop_holds c = (omega arith, below_none _)
 add_here : tie.Need-overflow-add-here invariant-loop decreases-loop
 add_here c = omega arith
 
-locks_whole_requires : tie.Need-locks-whole-requires invariant-loop decreases-loop
-locks_whole_requires c κs = (c.before.before.before.requires.0, omega arith)
+locks_at_requires : tie.Need-locks-at-requires invariant-loop decreases-loop
+locks_at_requires c κs = c.before.before.before.requires.0
 
 returns : tie.Need-returns invariant-loop decreases-loop
 returns c =
     let l = c.before.before.before in
     let a = l.before.before.args in
     sym (least_is _ a.n l.loop.j (omega arith)
-    (λ h. sym c.before.locks-whole.ensures ∙ c.if1.true) l.loop.invariant.1)
+    (λ h. sym c.before.locks-at.ensures ∙ c.if1.true) l.loop.invariant.1)
 
 add_j : tie.Need-overflow-add-j invariant-loop decreases-loop
 add_j c = omega arith
@@ -43,7 +43,7 @@ loop_again c =
     let a = l.before.before.args in (
       omega arith,
       below_more _ l.loop.j l.loop.invariant.1
-          (sym c.before.locks-whole.ensures ∙ c.if1.false),
+          (sym c.before.locks-at.ensures ∙ c.if1.false),
     )
 
 returns_2 : tie.Need-returns-2 invariant-loop decreases-loop
@@ -54,5 +54,5 @@ returns_2 c =
 
 pub first_of_spec : {M : Type 1} → statement M
 first_of_spec =
-    tie.close (tie.spec invariant-loop decreases-loop loop_holds add_here locks_whole_requires returns add_j loop_less loop_again
+    tie.close (tie.spec invariant-loop decreases-loop loop_holds add_here locks_at_requires returns add_j loop_less loop_again
     returns_2)

@@ -1,24 +1,61 @@
--- `pilots::locks_at` meets its contract: those that are there are counted, and the others are right in no half. Assumes nothing.
-use mathlib.Core.Path.{refl, ◌∙◌}
+-- `pilots::locks_at` meets its contract: n counts the pilots before pilot i that differ. Assumes nothing.
+use mathlib.Core.Path.{◌≡◌, refl, ap, ◌∙◌}
+use mathlib.Core.Bool.{not}
+use Prim.Native.Nat.{ℕ, ◌+◌, ◌-◌, ◌≤◌}
 use native.Mathlib.Omega.{arith}
-use borrow.Author.Rules.{rules}
-use Rattle.pilots.proofs.Halves.{counted_le, counted_there, counted_all}
+use lib.Dec.{ltb}
+use Rattle.bits.specs.definitions.Bits.{count}
+use Rattle.bits.proofs.Count.{count_le, count_more}
+use Rattle.pilots.specs.definitions.Pilots.{met, wrong_pilots, lock_limit, locks}
 use Rattle.pilots.proofs.locks_at.Statement.{statement}
 use Rattle.pilots.proofs.locks_at.Tie as tie
 
-few_differ_requires : tie.Need-few-differ-requires
-few_differ_requires c κs =
-    let h = c.before.pilots-there.ensures.0 in
-    let b = counted_le _ _ _ c.halves-right.result c.halves-right.ensures in
-    (omega arith, omega arith)
+abbrev invariant-loop : tie.invariant-loop
+invariant-loop t symbols offset n₀ i₀ n i = (i ≤ 96) × (n ≡ count (λ k. not (met symbols offset k)) i)
 
-returns : tie.Need-returns
+abbrev decreases-loop : tie.decreases-loop
+decreases-loop t symbols offset n₀ i₀ n i = 96 - i
+
+loop_holds : tie.Need-loop-init invariant-loop decreases-loop
+unfolding count
+loop_holds c = (omega arith, refl)
+
+wrong_requires : tie.Need-wrong-requires invariant-loop decreases-loop
+wrong_requires c κs = (c.before.before.before.requires, omega arith)
+
+turn : (c : tie.After-wrong invariant-loop decreases-loop)
+    → let l = c.before.before in let a = l.before.before.args in
+    l.loop.n + c.wrong.result ≡ count (λ k. not (met a.symbols.now a.offset k)) (l.loop.i + 1)
+turn c =
+    let l = c.before.before in
+    let a = l.before.before.args in
+    count_more (λ k. not (met a.symbols.now a.offset k)) l.loop.i l.loop.invariant.1 c.wrong.ensures
+
+add_n : tie.Need-overflow-add-n invariant-loop decreases-loop
+add_n c =
+    let l = c.before.before in
+    let a = l.before.before.args in
+    omega (arith, turn c, count_le (λ k. not (met a.symbols.now a.offset k)) (l.loop.i + 1))
+
+add_i : tie.Need-overflow-add-i invariant-loop decreases-loop
+add_i c = omega arith
+
+loop_less : tie.Need-loop-smaller invariant-loop decreases-loop
+loop_less c = omega arith
+
+loop_again : tie.Need-loop-preserved invariant-loop decreases-loop
+loop_again c = (omega arith, turn c)
+
+few_requires : tie.Need-few-requires invariant-loop decreases-loop
+few_requires c κs = tt
+
+returns : tie.Need-returns invariant-loop decreases-loop
+unfolding locks wrong_pilots
 returns c =
-    let h = c.before in
-    let a = h.before.before.before.args in
-    c.few-differ.ensures
-    ∙ counted_all a.symbols.now a.offset 96 h.halves-right.result
-    (counted_there a.symbols.now a.offset _ _ h.halves-right.result h.before.pilots-there.ensures refl h.halves-right.ensures) refl
+    let l = c.before.before in
+    let a = l.before.before.args in
+    let e : l.loop.i ≡ 96 = omega arith in
+    c.few.ensures ∙ ap (λ (n : ℕ). ltb n lock_limit) (l.loop.invariant.1 ∙ ap (count (λ k. not (met a.symbols.now a.offset k))) e)
 
 pub locks_at_spec : {M : Type 1} → statement M
-locks_at_spec = tie.close (tie.spec (λ c κs. search rules) (λ c κs. search rules) few_differ_requires returns)
+locks_at_spec = tie.close (tie.spec invariant-loop decreases-loop loop_holds wrong_requires add_n add_i loop_less loop_again few_requires returns)

@@ -9,11 +9,11 @@ use Rattle.pilots.proofs.locks_with.Tie as tie
 returns : tie.Need-returns
 returns c = sym (closed c.before.before.args.symbols.now c.before.before.args.offset (omega arith))
 
-locks_whole_requires : tie.Need-locks-whole-requires
-locks_whole_requires c κs = search rules
+locks_at_requires : tie.Need-locks-at-requires
+locks_at_requires c κs = search rules
 
 returns_2 : tie.Need-returns-2
-returns_2 c = c.locks-whole.ensures
+returns_2 c = c.locks-at.ensures
 
 pub locks_with_spec : {M : Type 1} → statement M
-locks_with_spec = tie.close (tie.spec returns locks_whole_requires returns_2)
+locks_with_spec = tie.close (tie.spec returns locks_at_requires returns_2)

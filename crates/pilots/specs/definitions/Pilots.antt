@@ -1,7 +1,6 @@
--- Pilots (01, pilots; 000, 7.1, table 4; table 5 is in Table5), lock (01, refusal 5, as 02's request 05 has it), and where a string first locks (02, request
--- 04).
+-- Pilots and lock (01, pilots and refusal 5; 000, 7.1, table 4; table 5 is in Table5), and where a string first locks (02, request 04).
 -- Assumes nothing.
-use Rattle.std.specs.Prelude.{Bool, cond, not, ◌&&◌, List, ℕ, zero, suc, ◌+◌, ◌*◌, ◌-◌, ◌/◌, ◌%◌, ◌^◌, length, get_or, eqb, ltb}
+use Rattle.std.specs.Prelude.{Bool, not, ◌&&◌, List, ℕ, zero, suc, ◌+◌, ◌*◌, ◌-◌, ◌/◌, ◌%◌, ◌^◌, length, get_or, eqb, ltb}
 use Rattle.bits.specs.definitions.Bits.{tabulate, count, least}
 use Rattle.pilots.specs.definitions.Table5.{pilots}
 
@@ -14,7 +13,7 @@ unfoldable pub leaves : ℕ → ℕ → ℕ
 leaves s zero = s % 2
 leaves s (suc i) = leaves (register_next s) i
 
--- the two labels of one polarisation of pilot k, I then Q: bit b is the label 2 b, so that 1 is +3 and 0 is -3
+-- the two labels of one polarization of pilot k, I then Q: bit b is the label 2 b, so that 1 is +3 and 0 is -3
 unfoldable pub labels_of : ℕ → ℕ → ℕ
 labels_of s k = leaves s (2 * k) * 8 + leaves s (2 * k + 1) * 2
 
@@ -26,49 +25,25 @@ pilot_of k = labels_of 0x175 k * 16 + labels_of 0x03D k
 unfoldable pub pilot_label : ℕ → ℕ → ℕ
 pilot_label k t = get_or pilots k 0 / 4 ^ (3 - t) % 4
 
--- the X half of a symbol, the upper four bits of its byte, XI and XQ; a number above 255, which no byte is, differs in it from every byte
-unfoldable pub x_half : ℕ → ℕ
-x_half symbol = symbol / 16
+-- pilot i is met in the string s from offset o on: symbol o + 64 i is there and has the pilot's byte
+unfoldable pub met : List ℕ → ℕ → ℕ → Bool
+met s o i = ltb (o + 64 * i) (length s) && eqb (get_or s (o + 64 * i) 0) (get_or pilots i 0)
 
--- the Y half, the lower four, YI and YQ
-unfoldable pub y_half : ℕ → ℕ
-y_half symbol = symbol % 16
+-- how many of the 96 pilot bytes differ, a missing symbol counting as different
+unfoldable pub wrong_pilots : List ℕ → ℕ → ℕ
+wrong_pilots s o = count (λ i. not (met s o i)) 96
 
--- pilot i is met in a part, such as a half, in the string s from offset o on: symbol o + 64 i is there and has the pilot's part
-unfoldable pub met : (ℕ → ℕ) → List ℕ → ℕ → ℕ → Bool
-met part s o i = ltb (o + 64 * i) (length s) && eqb (part (get_or s (o + 64 * i) 0)) (part (get_or pilots i 0))
-
--- how many of the 96 pilots differ in a part; a missing symbol differs in each
-unfoldable pub wrong_pilots : (ℕ → ℕ) → List ℕ → ℕ → ℕ
-wrong_pilots part s o = count (λ i. not (met part s o i)) 96
-
--- so many that differ in their X half, or so many in their Y half, are no lock
+-- so many that differ are no lock
 abbrev pub lock_limit : ℕ
-lock_limit = 13
+lock_limit = 25
 
--- the string s locks from offset o on: fewer pilots than this limit differ in their X half, and fewer than it in their Y half
+-- the string s locks from offset o on
 unfoldable pub locks : List ℕ → ℕ → Bool
-locks s o = ltb (wrong_pilots x_half s o) lock_limit && ltb (wrong_pilots y_half s o) lock_limit
-
--- the whole byte: a pilot differs in it if it differs in any bit. 01's limit of 25 counted these; `locks` does not
-unfoldable pub whole : ℕ → ℕ
-whole symbol = symbol
-
--- how many of the 96 pilots differ in one half alone, and not in the other
-unfoldable pub wrong_alone : (ℕ → ℕ) → (ℕ → ℕ) → List ℕ → ℕ → ℕ
-wrong_alone half other s o = count (λ i. not (met half s o i) && met other s o i) 96
+locks s o = ltb (wrong_pilots s o) lock_limit
 
 -- how many symbols a frame has (01, one frame in numbers)
 abbrev pub frame_symbols : ℕ
 frame_symbols = 6144
-
--- a frame with its polarisations exchanged at some of its places
-unfoldable pub swapped : (ℕ → Bool) → List ℕ → List ℕ
-swapped there f = tabulate frame_symbols (λ t. cond (there t) (y_half (get_or f t 0) * 16 + x_half (get_or f t 0)) (get_or f t 0))
-
--- how many pilots stand at these places that have another X half than Y half
-unfoldable pub swapped_pilots : (ℕ → Bool) → ℕ
-swapped_pilots there = count (λ k. there (64 * k) && not (eqb (x_half (get_or pilots k 0)) (y_half (get_or pilots k 0)))) 96
 
 -- how many offsets of the string s have a whole frame behind them: all those below this number
 abbrev pub offsets : List ℕ → ℕ

@@ -5,7 +5,7 @@ use Rattle.bits.specs.definitions.Bits.{tabulate}
 use Rattle.pilots.specs.declared.Level.TheVariants as level
 use Rattle.pilots.specs.definitions.Levels.{level_of}
 use Rattle.pilots.specs.definitions.Table5.{pilots}
-use Rattle.pilots.specs.definitions.Pilots.{pilot_of, pilot_label, x_half, y_half}
+use Rattle.pilots.specs.definitions.Pilots.{pilot_of, pilot_label}
 
 -- the 96 pilots of table 5 are what the polynomial and the seeds of table 4 produce
 abbrev pub TablesAgree : Type 0
@@ -14,12 +14,6 @@ TablesAgree = pilots ≡ tabulate 96 pilot_of
 -- a pilot's byte is its four labels, XI on top
 abbrev pub PilotLabels : Type 0
 PilotLabels = (k : ℕ) → k < 96 → get_or pilots k 0 ≡ ((pilot_label k 0 * 4 + pilot_label k 1) * 4 + pilot_label k 2) * 4 + pilot_label k 3
-
--- so a pilot's X half is its labels XI and XQ, and its Y half YI and YQ
-abbrev pub PilotHalves : Type 0
-PilotHalves =
-    (k : ℕ) → k < 96
-    → (x_half (get_or pilots k 0) ≡ pilot_label k 0 * 4 + pilot_label k 1) × (y_half (get_or pilots k 0) ≡ pilot_label k 2 * 4 + pilot_label k 3)
 
 -- only outer levels occur: each tributary's label of each pilot has the level -3 or +3
 abbrev pub OuterLevels : Type 0

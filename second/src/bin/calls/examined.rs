@@ -2,7 +2,7 @@
 //! length near the report's, and beside a host that steps over the same bytes record by record.
 
 use crate::accounts::{AHEAD, STARTS};
-use crate::frames::{flip_any, sent, Symbols, WITHOUT};
+use crate::frames::{damage_pilots, flip_any, sent, Symbols};
 use crate::out::Calls;
 use crate::records::order;
 use crate::reports::ROOM;
@@ -12,7 +12,7 @@ use second::capture::{frame_record, wanted, FRAME_RECORD, ORDER_RECORD};
 use second::kept::{Kept, STOPPED};
 use second::lanes::STORE_BYTES;
 use second::run::Run;
-use second::spoil::{spoil_any, swap_polarisations, MOST_WITH_LOCK};
+use second::symbols::NO_LOCK;
 use second::xorshift::Xorshift;
 use std::io::{self, Write};
 
@@ -67,9 +67,8 @@ fn both_ways<W: Write>(
     Ok(verdict)
 }
 
-/// Frames one after the other, of which every second has a flagged word beside its fill, and every
-/// third as many wrong pilots as there can be with lock; fill is flagged in the first and in the
-/// second.
+/// Frames one after the other, of which every second has a flagged word beside its fill; fill is
+/// flagged in the first and in the second.
 fn frames(random: &mut Xorshift, count: usize) -> Vec<Symbols> {
     let mut store = [0; STORE_BYTES];
     let mut frames: Vec<_> = (0..count).map(|_| sent(random, &mut store)).collect();
@@ -79,9 +78,6 @@ fn frames(random: &mut Xorshift, count: usize) -> Vec<Symbols> {
         flip_any(random, frame, 300, 2);
         if n < 2 {
             flip_any(random, frame, 63, 3);
-        }
-        if n % 3 == 2 {
-            spoil_any(random, frame, MOST_WITH_LOCK);
         }
     }
     frames
@@ -136,13 +132,9 @@ fn disturbed<W: Write>(calls: &mut Calls<W>, random: &mut Xorshift) -> io::Resul
         let measured = capture(start, 2, allowed, &all[..2]);
         let (first, rest) = measured.split_at(ORDER_RECORD);
         let (one, two) = rest.split_at(FRAME_RECORD);
-        // By its X half alone, by its Y half alone, and with its polarisations swapped for a part.
-        let [mut by_x, mut by_y, mut by_both] = [all[1]; 3];
-        spoil_any(random, &mut by_x, [13, 0, 0]);
-        spoil_any(random, &mut by_y, [0, 13, 0]);
-        swap_polarisations(&mut by_both[..24 * 64]);
-        let [by_x, by_y, by_both] =
-            [by_x, by_y, by_both].map(|symbols| frame_record(start.wrapping_add(1), &symbols));
+        let mut lost = all[1];
+        damage_pilots(random, &mut lost, NO_LOCK);
+        let lost = frame_record(start.wrapping_add(1), &lost);
         let next = frame_record(start.wrapping_add(2), &all[2]);
         let apart = frame_record(start.wrapping_add(2), &all[1]);
         let mut captures = vec![
@@ -157,11 +149,8 @@ fn disturbed<W: Write>(calls: &mut Calls<W>, random: &mut Xorshift) -> io::Resul
             vec![first, one, one, two],
             vec![first, one, two, two],
             vec![first, one, two, &next],
-            vec![first, one, &by_x],
-            vec![first, one, &by_y],
-            vec![first, one, &by_both],
-            vec![first, one, two, &by_x],
-            vec![first, one, two, &by_y],
+            vec![first, one, &lost],
+            vec![first, one, two, &lost],
             vec![first, one, &apart],
         ];
         for more in [&[0][..], &[1], &[0xFF; 3], &[0; 4], &first[..17], &one[..9]] {
@@ -196,10 +185,9 @@ fn disturbed<W: Write>(calls: &mut Calls<W>, random: &mut Xorshift) -> io::Resul
 fn ahead<W: Write>(calls: &mut Calls<W>, random: &mut Xorshift) -> io::Result<()> {
     let all = frames(random, 2);
     let (good, next) = (all[0], all[1]);
+    let mut bad = good;
+    damage_pilots(random, &mut bad, NO_LOCK);
     for d in AHEAD {
-        let mut bad = good;
-        let wrong = random.pick(&WITHOUT);
-        spoil_any(random, &mut bad, wrong);
         for symbols in [&good, &bad] {
             let start = random.pick(&STARTS);
             let capture = [

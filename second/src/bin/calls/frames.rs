@@ -13,24 +13,15 @@ use crate::lengths::wrong_length;
 use crate::out::Calls;
 use second::lanes::{LANES_BYTES, STORE_BYTES};
 use second::send::send;
-use second::spoil::{spoil_any, Wrong, ALL_WRONG, MOST_WITH_LOCK, NONE_WRONG};
-use second::symbols::{bit_place, FRAME_SYMBOLS, PILOTS, ROW_SYMBOLS};
+use second::symbols::{bit_place, FRAME_SYMBOLS, PILOTS, PILOT_COUNT, ROW_SYMBOLS};
 use second::word::{FRAME_WORDS, WORD_BITS};
 use second::xorshift::Xorshift;
 use std::io::{self, Write};
 
 pub type Symbols = [u8; FRAME_SYMBOLS];
 
-/// How many pilots are wrong, in turn: with lock, and without by one half alone or by both.
-#[rustfmt::skip]
-pub const WITH_LOCK: [Wrong; 7] = [
-    NONE_WRONG, [1, 0, 0], [11, 12, 0], MOST_WITH_LOCK, [0, 0, 12], [12, 0, 0], [7, 6, 5],
-];
-#[rustfmt::skip]
-pub const WITHOUT: [Wrong; 9] = [
-    [13, 0, 0], [0, 13, 0], [0, 0, 13], [13, 12, 0], [12, 13, 0], [12, 12, 1],
-    [24, 0, 0], [0, 24, 0], ALL_WRONG,
-];
+/// How many pilots are wrong, in turn.
+const WRONG_PILOTS: [usize; 7] = [0, 1, 23, 24, 25, 26, PILOT_COUNT];
 
 /// The next frame of a sender's run over random lanes, of which no call is written.
 pub fn sent(random: &mut Xorshift, store: &mut [u8]) -> Symbols {
@@ -55,6 +46,12 @@ pub fn damage_words(random: &mut Xorshift, frame: &mut [u8], least: u64, most: u
     for word in 0..FRAME_WORDS {
         let count = least + random.below(most - least + 1);
         flip_any(random, frame, word, count as usize);
+    }
+}
+
+pub fn damage_pilots(random: &mut Xorshift, frame: &mut [u8], count: usize) {
+    for number in random.choose(PILOT_COUNT, count) {
+        frame[ROW_SYMBOLS * number] ^= 1 + random.below(255) as u8;
     }
 }
 
@@ -122,8 +119,7 @@ fn write_receiving<W: Write>(
         2 => damage_words(random, &mut input, 0, 2),
         5 => {
             damage_words(random, &mut input, 0, 6);
-            let wrong = [&WITH_LOCK[..], &WITHOUT].concat();
-            spoil_any(random, &mut input, wrong[round as usize % wrong.len()]);
+            damage_pilots(random, &mut input, WRONG_PILOTS[round as usize % 7]);
         }
         3 => {
             random_store = matches!(round % 4, 0 | 3);

@@ -1,43 +1,21 @@
 //! The hunt: whole runs of every kind, searches in pieces that are asked after every piece, and
 //! states and kept symbols as no search leaves them.
 
-use crate::frames::sent;
+use crate::frames::{damage_pilots, sent};
 use crate::lengths::wrong_lengths;
 use crate::out::Calls;
 use crate::verdicts::any;
 use second::hunt::{found_at, place, Found, State, NONE, SHORT};
 use second::lanes::STORE_BYTES;
-use second::spoil::{
-    lock_with, spoil, spoil_any, swap_polarisations, Wrong, ALL_WRONG, MOST_WITH_LOCK, NONE_WRONG,
-};
-use second::symbols::{FRAME_SYMBOLS, PILOTS, PILOT_COUNT, ROW_SYMBOLS};
+use second::symbols::{locks, FRAME_SYMBOLS, NO_LOCK, PILOTS, PILOT_COUNT, ROW_SYMBOLS};
 use second::xorshift::Xorshift;
 use std::io::{self, Write};
 
 /// Found states: none, and any number that is not 0, some of which are 0 in their lower half.
 const FOUND: [u64; 7] = [0, 1, 2, 7, 1 << 32, 1 << 63, u64::MAX];
 
-/// How many pilots are wrong just under the limit in each half, and just at it in one half or in
-/// both.
-const UNDER: [Wrong; 4] = [MOST_WITH_LOCK, [12, 0, 0], [0, 12, 0], [1, 1, 11]];
-const AT: [Wrong; 5] = [[13, 0, 0], [0, 13, 0], [13, 12, 0], [12, 13, 0], [0, 0, 13]];
-
-/// Without lock, though fewer than 25 are wrong: bytes that differ, counted as a whole, would not
-/// tell.
-const FEWER_BYTES: [Wrong; 12] = [
-    [13, 0, 0],
-    [0, 13, 0],
-    [0, 0, 13],
-    [24, 0, 0],
-    [0, 24, 0],
-    [0, 0, 24],
-    [13, 11, 0],
-    [11, 13, 0],
-    [12, 0, 1],
-    [0, 12, 1],
-    [12, 11, 1],
-    [8, 8, 8],
-];
+/// How many pilots are wrong on both sides of the limit.
+const NEAR: [usize; 4] = [NO_LOCK - 2, NO_LOCK - 1, NO_LOCK, NO_LOCK + 1];
 
 /// A frame from any store.
 fn frame(random: &mut Xorshift) -> Vec<u8> {
@@ -45,10 +23,19 @@ fn frame(random: &mut Xorshift) -> Vec<u8> {
     sent(random, &mut store).to_vec()
 }
 
+/// Makes these pilots wrong, in turn in their X half alone and in their Y half alone.
+fn spoil(random: &mut Xorshift, frame: &mut [u8], numbers: &[usize]) {
+    for (n, number) in numbers.iter().enumerate() {
+        let wrong = 1 + random.below(15) as u8;
+        frame[ROW_SYMBOLS * number] ^= wrong << (4 * (n % 2));
+    }
+}
+
 /// A frame of which so many pilots, any ones, are wrong.
-fn spoiled(random: &mut Xorshift, wrong: Wrong) -> Vec<u8> {
+fn spoiled(random: &mut Xorshift, count: usize) -> Vec<u8> {
     let mut frame = frame(random);
-    spoil_any(random, &mut frame, wrong);
+    let numbers = random.choose(PILOT_COUNT, count);
+    spoil(random, &mut frame, &numbers);
     frame
 }
 
@@ -92,20 +79,19 @@ fn offsets(random: &mut Xorshift) -> Vec<usize> {
 /// One frame among random symbols, with so many wrong pilots that it still locks or no longer does.
 fn one_frame<W: Write>(calls: &mut Calls<W>, random: &mut Xorshift) -> io::Result<()> {
     for offset in offsets(random) {
-        let some = [NONE_WRONG, [1, 1, 1], ALL_WRONG];
-        let near = [
-            MOST_WITH_LOCK,
-            random.pick(&UNDER),
-            AT[0],
-            AT[1],
-            random.pick(&AT[2..]),
-        ];
-        for wrong in some.into_iter().chain(near) {
+        for wrong in [0, 1].into_iter().chain(NEAR).chain([PILOT_COUNT]) {
             let frame = spoiled(random, wrong);
             let behind = random.pick(&[0, 1, 63, 64, 1_000]);
             let run = within(random, offset, &frame, behind);
-            assert_eq!(calls.hunt(&run)?, start_if(lock_with(wrong), offset));
+            assert_eq!(calls.hunt(&run)?, start_if(wrong < NO_LOCK, offset));
         }
+        // Wrong in whatever bits.
+        let wrong = random.pick(&NEAR);
+        let mut frame = frame(random);
+        damage_pilots(random, &mut frame, wrong);
+        let lock = locks(frame[..].try_into().expect("a frame"));
+        let run = within(random, offset, &frame, 70);
+        assert_eq!(calls.hunt(&run)?, start_if(lock, offset));
     }
     // The last frame is whole, or a part of it is missing.
     for offset in offsets(random) {
@@ -130,49 +116,46 @@ fn one_frame<W: Write>(calls: &mut Calls<W>, random: &mut Xorshift) -> io::Resul
 /// Each pilot as the one on which it depends; and the wrong ones all first, last, and in a row.
 fn each_pilot<W: Write>(calls: &mut Calls<W>, random: &mut Xorshift) -> io::Result<()> {
     for number in 0..PILOT_COUNT {
-        let others = (0..PILOT_COUNT).filter(|other| *other != number);
+        let mut others = random.choose(PILOT_COUNT - 1, NO_LOCK - 1);
+        for other in &mut others {
+            *other += usize::from(*other >= number);
+        }
         let mut frame = frame(random);
-        spoil(random, &mut frame, others, MOST_WITH_LOCK);
+        spoil(random, &mut frame, &others);
         let offset = random.below(20) as usize;
         let mut run = within(random, offset, &frame, 5);
         assert_eq!(calls.hunt(&run)?, found_at(offset as u64));
-        // One bit more, in whichever half.
         run[offset + ROW_SYMBOLS * number] ^= 1 << random.below(8);
         assert_eq!(calls.hunt(&run)?, NONE);
     }
-    for wrong in [
-        MOST_WITH_LOCK,
-        [12, 0, 0],
-        AT[0],
-        AT[1],
-        random.pick(&AT[2..]),
-    ] {
-        let count: usize = wrong.iter().sum();
-        for first in [0, 30, PILOT_COUNT - count] {
+    for first in [0, 1, 30, PILOT_COUNT - NO_LOCK - 1, PILOT_COUNT - NO_LOCK] {
+        for count in [NO_LOCK - 1, NO_LOCK] {
+            let numbers: Vec<usize> = (first..first + count).collect();
             let mut frame = frame(random);
-            spoil(random, &mut frame, first..first + count, wrong);
+            spoil(random, &mut frame, &numbers);
             let run = within(random, 40, &frame, 300);
-            assert_eq!(calls.hunt(&run)?, start_if(lock_with(wrong), 40));
+            assert_eq!(calls.hunt(&run)?, start_if(count < NO_LOCK, 40));
         }
     }
     Ok(())
 }
 
 /// Pilots alone, so many of them wrong, over what is there.
-fn plant(random: &mut Xorshift, run: &mut [u8], wrong: Wrong) {
+fn plant(random: &mut Xorshift, run: &mut [u8], wrong: usize) {
     for (number, pilot) in PILOTS.into_iter().enumerate() {
         run[ROW_SYMBOLS * number] = pilot;
     }
-    spoil_any(random, run, wrong);
+    let numbers = random.choose(PILOT_COUNT, wrong);
+    spoil(random, run, &numbers);
 }
 
 /// Several starts: the first of them is told, whether a frame was sent there or not.
 fn several<W: Write>(calls: &mut Calls<W>, random: &mut Xorshift) -> io::Result<()> {
     for offset in [0, 1, 64, 777] {
-        for wrong in [MOST_WITH_LOCK, random.pick(&UNDER)].into_iter().chain(AT) {
-            let (first, second) = (spoiled(random, wrong), spoiled(random, MOST_WITH_LOCK));
+        for wrong in [0].into_iter().chain(NEAR) {
+            let (first, second) = (spoiled(random, wrong), spoiled(random, NO_LOCK - 1));
             let run = [random.bytes(offset), first, second, frame(random)].concat();
-            let start = match lock_with(wrong) {
+            let start = match wrong < NO_LOCK {
                 true => offset,
                 false => offset + FRAME_SYMBOLS,
             };
@@ -185,18 +168,17 @@ fn several<W: Write>(calls: &mut Calls<W>, random: &mut Xorshift) -> io::Result<
         let offset = 6_200;
         let frame = frame(random);
         let right = within(random, offset, &frame, 6_200);
-        let near = [random.pick(&UNDER), AT[0], AT[1], random.pick(&AT[2..])];
-        for wrong in [NONE_WRONG].into_iter().chain(near) {
+        for wrong in [0].into_iter().chain(NEAR) {
             let mut run = right.clone();
             plant(random, &mut run[offset - ahead..], wrong);
-            let start = match lock_with(wrong) {
+            let start = match wrong < NO_LOCK {
                 true => offset - ahead,
                 false => offset,
             };
             assert_eq!(calls.hunt(&run)?, found_at(start as u64));
         }
         let mut run = right.clone();
-        plant(random, &mut run[offset + ahead..], NONE_WRONG);
+        plant(random, &mut run[offset + ahead..], 0);
         assert_eq!(calls.hunt(&run)?, found_at(offset as u64));
         assert_eq!(calls.hunt(&run[offset + 1..])?.offset, ahead as u64 - 1);
     }
@@ -206,11 +188,7 @@ fn several<W: Write>(calls: &mut Calls<W>, random: &mut Xorshift) -> io::Result<
         let mut run = random.bytes(FRAME_SYMBOLS + 4 * ROW_SYMBOLS);
         for column in 0..ROW_SYMBOLS {
             let offset = column + ROW_SYMBOLS * random.below(4) as usize;
-            // Mostly too many in one half alone.
-            let most = random.pick(&[2, 12, 30, 30]);
-            let [x, y] = [0; 2].map(|_| 12 + random.below(most) as usize);
-            let same = random.below(13) as usize;
-            let wrong = [x - same, y - same, same + random.below(4) as usize];
+            let wrong = NO_LOCK - 1 + random.below(60) as usize;
             plant(random, &mut run[offset..], wrong);
         }
         seen[calls.hunt(&run)?.found as usize] += 1;
@@ -232,7 +210,7 @@ fn none<W: Write>(calls: &mut Calls<W>, random: &mut Xorshift) -> io::Result<()>
         }
     }
     for offset in [65_536, 300_000] {
-        let frame = spoiled(random, MOST_WITH_LOCK);
+        let frame = spoiled(random, NO_LOCK - 1);
         let run = within(random, offset, &frame, 0);
         assert_eq!(calls.hunt(&run)?, found_at(offset as u64));
         assert_eq!(calls.hunt(&run[..run.len() - 1])?, NONE);
@@ -326,15 +304,14 @@ fn even_pieces<W: Write>(calls: &mut Calls<W>, random: &mut Xorshift) -> io::Res
         (6_145, 6_145),
         (20_000, 9_999),
     ] {
-        for wrong in [MOST_WITH_LOCK, random.pick(&AT)] {
-            let lock = lock_with(wrong);
-            if size < 100 && !lock && offset > 0 {
+        for wrong in [NO_LOCK - 1, NO_LOCK] {
+            if size < 100 && wrong == NO_LOCK && offset > 0 {
                 continue;
             }
             let frame = spoiled(random, wrong);
             let run = within(random, offset, &frame, 300);
             let mut search = Search::open(calls, random, &run)?;
-            assert_eq!(search.said, start_if(lock, offset));
+            assert_eq!(search.said, start_if(wrong < NO_LOCK, offset));
             search.feed(calls, 0)?;
             while !search.ended() {
                 search.feed(calls, size)?;
@@ -352,12 +329,12 @@ fn even_pieces<W: Write>(calls: &mut Calls<W>, random: &mut Xorshift) -> io::Res
 fn single_symbols<W: Write>(calls: &mut Calls<W>, random: &mut Xorshift) -> io::Result<()> {
     for size in [1, 2] {
         for (offset, wrong) in [
-            (0, NONE_WRONG),
-            (1, MOST_WITH_LOCK),
-            (40, AT[size % 2]),
-            (64, NONE_WRONG),
-            (6_144, [0, 0, 12]),
-            (7_000, NONE_WRONG),
+            (0, 0),
+            (1, NO_LOCK - 1),
+            (40, NO_LOCK),
+            (64, 0),
+            (6_144, NO_LOCK - 1),
+            (7_000, 0),
         ] {
             let frame = spoiled(random, wrong);
             let run = within(random, offset, &frame, 20);
@@ -375,7 +352,7 @@ fn single_symbols<W: Write>(calls: &mut Calls<W>, random: &mut Xorshift) -> io::
                     _ => search.feed(calls, size)?,
                 }
             }
-            assert_eq!(search.state.found, u64::from(lock_with(wrong)));
+            assert_eq!(search.state.found, u64::from(wrong < NO_LOCK));
         }
     }
     Ok(())
@@ -386,11 +363,7 @@ fn single_symbols<W: Write>(calls: &mut Calls<W>, random: &mut Xorshift) -> io::
 fn any_pieces<W: Write>(calls: &mut Calls<W>, random: &mut Xorshift) -> io::Result<()> {
     let mut seen = [0; 2];
     for round in 0..40 {
-        let wrong = match random.below(3) {
-            0 => NONE_WRONG,
-            1 => random.pick(&UNDER),
-            _ => random.pick(&AT),
-        };
+        let wrong = random.pick(&[0, NO_LOCK - 1, NO_LOCK]);
         let first = spoiled(random, wrong);
         let (before, behind) = (random.below(9_000), random.below(3_000));
         let mut run = within(random, before as usize, &first, behind as usize);
@@ -399,7 +372,7 @@ fn any_pieces<W: Write>(calls: &mut Calls<W>, random: &mut Xorshift) -> io::Resu
         }
         if round % 5 == 0 && before > 0 {
             let ahead = 1 + random.below(before.min(63)) as usize;
-            plant(random, &mut run[before as usize - ahead..], MOST_WITH_LOCK);
+            plant(random, &mut run[before as usize - ahead..], NO_LOCK - 1);
         }
         let cut = random.pick(&[0, 0, 1, 100]);
         run.truncate(run.len() - cut);
@@ -414,35 +387,6 @@ fn any_pieces<W: Write>(calls: &mut Calls<W>, random: &mut Xorshift) -> io::Resu
         seen[search.said.found as usize] += 1;
     }
     assert!(seen.iter().all(|&times| times > 3), "{seen:?}");
-    Ok(())
-}
-
-/// Frames that only whole bytes would let lock, by their wrong pilots or by a part with its
-/// polarisations swapped, and one that does lock behind them: whole and in pieces, it alone is found.
-fn passed_over<W: Write>(calls: &mut Calls<W>, random: &mut Xorshift) -> io::Result<()> {
-    let mut first: Vec<Vec<u8>> = FEWER_BYTES.map(|wrong| spoiled(random, wrong)).to_vec();
-    for part in [0..24 * 64, 2_000..3_500, 4_600..6_144] {
-        let mut frame = frame(random);
-        swap_polarisations(&mut frame[part]);
-        first.push(frame);
-    }
-    for first in first {
-        let differ = |row: &usize| first[ROW_SYMBOLS * row] != PILOTS[*row];
-        assert!((13..25).contains(&(0..PILOT_COUNT).filter(differ).count()));
-        let before = random.below(200) as usize;
-        let second = spoiled(random, MOST_WITH_LOCK);
-        let run = [random.bytes(before), first, second, random.bytes(30)].concat();
-        let start = before + FRAME_SYMBOLS;
-        assert_eq!(calls.hunt(&run[before..start])?, NONE);
-        let mut search = Search::open(calls, random, &run)?;
-        assert_eq!(search.said, found_at(start as u64));
-        // The first ends with a piece, within one, or with a symbol alone.
-        let cut = random.below(6_000) as usize;
-        for count in [cut, start - cut - 1, 1, 64, 5_000, FRAME_SYMBOLS] {
-            search.feed(calls, count)?;
-        }
-        assert!(search.ended() && search.state.found == 1);
-    }
     Ok(())
 }
 
@@ -501,7 +445,7 @@ fn completed<W: Write>(calls: &mut Calls<W>, random: &mut Xorshift) -> io::Resul
             random.pick(&[64, 65, 100]),
             random.pick(&[640, 6_143]),
         ] {
-            for wrong in [random.pick(&UNDER), random.pick(&AT)] {
+            for wrong in [NO_LOCK - 1, NO_LOCK] {
                 let frame = spoiled(random, wrong);
                 let kept = kept_before(random, taken, &frame, lacking);
                 let more = random.pick(&[0, 0, 1, 70]);
@@ -515,7 +459,7 @@ fn completed<W: Write>(calls: &mut Calls<W>, random: &mut Xorshift) -> io::Resul
                     continue;
                 };
                 let end = taken + lacking as u64;
-                let lock = lock_with(wrong) && end >= FRAME_SYMBOLS as u64;
+                let lock = wrong < NO_LOCK && end >= FRAME_SYMBOLS as u64;
                 let (taken, found) = if lock { (end, 1) } else { (all, 0) };
                 assert_eq!((refusal, after), (0, State { taken, found }));
                 let said_none = if taken < FRAME_SYMBOLS as u64 {
@@ -644,7 +588,6 @@ pub fn write<W: Write>(calls: &mut Calls<W>, random: &mut Xorshift) -> io::Resul
     even_pieces(calls, random)?;
     single_symbols(calls, random)?;
     any_pieces(calls, random)?;
-    passed_over(calls, random)?;
     completed(calls, random)?;
     odd_states(calls, random)?;
     refused(calls, random)

@@ -1,11 +1,10 @@
 //! Sending and receiving with every buffer of every length that is near, and with every set of
 //! refusals that can occur together.
 
-use crate::frames::{sent, WITHOUT};
+use crate::frames::{damage_pilots, sent};
 use crate::out::Calls;
 use second::lanes::{LANES_BYTES, STORE_BYTES};
-use second::spoil::{spoil_any, MOST_WITH_LOCK};
-use second::symbols::FRAME_SYMBOLS;
+use second::symbols::{FRAME_SYMBOLS, NO_LOCK};
 use second::word::FRAME_WORDS;
 use second::xorshift::Xorshift;
 use std::io::{self, Write};
@@ -43,7 +42,7 @@ fn send<W: Write>(
     calls.send(&input, &mut store, &mut output)
 }
 
-/// With as many wrong pilots as there can be with lock, or without lock.
+/// With 24 wrong pilots, or 25.
 fn receive<W: Write>(
     calls: &mut Calls<W>,
     random: &mut Xorshift,
@@ -52,11 +51,7 @@ fn receive<W: Write>(
 ) -> io::Result<u32> {
     let [_, mut store, mut output, mut flags] = lengths.map(|length| random.bytes(length));
     let mut input = sent(random, &mut [0; STORE_BYTES]).to_vec();
-    let wrong = match lock {
-        true => MOST_WITH_LOCK,
-        false => random.pick(&WITHOUT),
-    };
-    spoil_any(random, &mut input, wrong);
+    damage_pilots(random, &mut input, NO_LOCK - usize::from(lock));
     input.resize(lengths[0], 0);
     calls.receive(&input, &mut store, &mut output, &mut flags)
 }

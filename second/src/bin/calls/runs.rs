@@ -3,7 +3,7 @@
 //! report after every step.
 
 use crate::accounts::{edges, odd_account, start_near, AHEAD, MOST, STARTS};
-use crate::frames::{damage_words, flip_any, sent, Symbols, WITHOUT, WITH_LOCK};
+use crate::frames::{damage_pilots, damage_words, flip_any, sent, Symbols};
 use crate::out::Calls;
 use crate::records::{order, unlawful};
 use crate::reports::ROOM;
@@ -17,8 +17,7 @@ use second::capture::{
 use second::kept::{Kept, GOING, STOPPED, UNORDERED};
 use second::lanes::{LANES_BYTES, STORE_BYTES};
 use second::receive::receive;
-use second::spoil::{spoil_any, swap_polarisations, MOST_WITH_LOCK};
-use second::symbols::FRAME_SYMBOLS;
+use second::symbols::{NO_LOCK, PILOT_COUNT};
 use second::word::FRAME_WORDS;
 use second::xorshift::Xorshift;
 use std::io::{self, Write};
@@ -107,14 +106,14 @@ fn damaged(random: &mut Xorshift) -> Symbols {
     for (word, flips) in (0..FRAME_WORDS).zip([0, 1, 0, 2, 0, 0, 3].into_iter().cycle()) {
         flip_any(random, &mut frame, word, flips);
     }
-    spoil_any(random, &mut frame, MOST_WITH_LOCK);
+    damage_pilots(random, &mut frame, NO_LOCK - 1);
     frame
 }
 
 fn lost(random: &mut Xorshift) -> Symbols {
     let mut frame = sent(random, &mut [0; STORE_BYTES]);
-    let wrong = random.pick(&WITHOUT);
-    spoil_any(random, &mut frame, wrong);
+    let wrong = random.pick(&[NO_LOCK, NO_LOCK + 1, PILOT_COUNT]);
+    damage_pilots(random, &mut frame, wrong);
     frame
 }
 
@@ -583,20 +582,12 @@ fn disturbed<W: Write>(calls: &mut Calls<W>, random: &mut Xorshift) -> io::Resul
             0
         };
         let number = host.run.account.expected.wrapping_add(ahead);
-        let (lock, wrong) = match random.below(3) {
-            0 => (false, random.pick(&WITHOUT)),
-            _ => (true, random.pick(&WITH_LOCK)),
-        };
-        let before = host.run.account;
+        let wrong = random.pick(&[0, 1, 23, 24, 24, 25, 26]);
         host.frame(random, number, |random, symbols| {
             damage_words(random, symbols, 0, n % 7);
-            spoil_any(random, symbols, wrong);
+            damage_pilots(random, symbols, wrong);
         })?;
         assert_eq!((host.run.phase, host.told), (GOING, 0));
-        let account = host.run.account;
-        let missing = before.missing + u64::from(ahead) + u64::from(!lock);
-        assert_eq!(account.accepted, before.accepted + u64::from(lock));
-        assert_eq!(account.missing, missing);
     }
     let late = host.run.account.expected.wrapping_sub(1);
     host.frame(random, late, |_, _| ())?;
@@ -604,47 +595,6 @@ fn disturbed<W: Write>(calls: &mut Calls<W>, random: &mut Xorshift) -> io::Resul
     for _ in 0..5 {
         let next = host.run.account.expected;
         host.frame(random, next, |_, _| ())?;
-    }
-    Ok(())
-}
-
-/// A run of three frames of which one, each in turn, has no lock by its X half alone, by its Y half
-/// alone, by both, or for a part with its polarisations swapped: it is lost, and nothing is measured;
-/// with one pilot fewer wrong, and with a shorter part, the run is measured.
-fn refused_by_a_half<W: Write>(calls: &mut Calls<W>, random: &mut Xorshift) -> io::Result<()> {
-    for which in 0..3 {
-        for (lock, wrong, part) in [
-            (true, [12, 0, 0], 0),
-            (false, [13, 0, 0], 0),
-            (true, [0, 12, 0], 0),
-            (false, [0, 13, 0], 0),
-            (true, [0, 0, 12], 0),
-            (false, [0, 0, 13], 0),
-            (true, [0; 3], 12 * 64),
-            (false, [0; 3], 24 * 64),
-            (false, [0; 3], FRAME_SYMBOLS),
-        ] {
-            let mut host = Host::new(calls, random)?;
-            host.step(random, &order(u32::MAX, 3, u32::MAX))?;
-            let mut verdict = NOT_MEASURED;
-            for n in 0..3 {
-                let number = u32::MAX.wrapping_add(n);
-                verdict = host.frame(random, number, |random, symbols| {
-                    if n == which {
-                        spoil_any(random, symbols, wrong);
-                        swap_polarisations(&mut symbols[..part]);
-                    }
-                })?;
-                assert_eq!((host.run.phase, host.told), (GOING, 0));
-            }
-            let numbers = (host.run.account.accepted, host.run.account.missing);
-            let right = if lock {
-                (PASS, (3, 0))
-            } else {
-                (NOT_MEASURED, (2, 1))
-            };
-            assert_eq!((verdict, numbers), right);
-        }
     }
     Ok(())
 }
@@ -686,7 +636,6 @@ pub fn write<W: Write>(calls: &mut Calls<W>, random: &mut Xorshift) -> io::Resul
     at_limits(calls, random)?;
     measured(calls, random)?;
     disturbed(calls, random)?;
-    refused_by_a_half(calls, random)?;
     arbitrary(calls, random)
 }
 
