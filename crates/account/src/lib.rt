@@ -1,4 +1,6 @@
 // The account of a run and its verdict: what each frame changes, and what may be said in the end.
+#![tactic(auto)]
+
 ghost use Rattle.std.specs.Prelude.{◌≡◌, ◌+◌, ◌^◌, ◌<◌, ◌≤◌, false, ◌&&◌, length, if◌then◌else◌, ◌==◌, nat_eq, nat_le, nat_lt, slice_index};
 ghost use Rattle.bits.specs.definitions.Bits.{count};
 ghost use Rattle.account.specs.definitions.Account.{tally_limit, ahead, by_number, tallies_of, total, added, opened, late, grown, frames_over, words_over};

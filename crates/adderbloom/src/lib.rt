@@ -1,4 +1,6 @@
 // What a rig's host program in C calls. A slice passes as a pointer and a length, in that order.
+#![tactic(auto)]
+
 mod captures;
 mod entries;
 mod hunts;

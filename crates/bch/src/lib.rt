@@ -1,5 +1,7 @@
 // The word code BCH(126,110): the parity and the remainder of one word, and of the 384 words of a frame in one call.
 // A word is two numbers: hi has bits 0 to 61 in its 62 low bits, lo has bits 62 to 125. Bits 0 to 109 are the information, the rest is parity.
+#![tactic(auto)]
+
 ghost use Rattle.std.specs.Prelude.{◌≡◌, ◌+◌, ◌*◌, ◌%◌, ◌^◌, ◌<◌, ◌≤◌, length};
 ghost use Rattle.bits.specs.definitions.Bits.{tabulate};
 ghost use Rattle.bits.specs.definitions.Words.{word_of, word_at, row_of};

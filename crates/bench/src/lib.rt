@@ -1,4 +1,6 @@
 // The run of a capture, record by record.
+#![tactic(auto)]
+
 ghost use Rattle.std.specs.Prelude.{◌≡◌, cond, length};
 ghost use Rattle.bench.specs.definitions.Run.{begun, going, stopped, after_entry, is_stopped, entry_of, order_came, frame_came, frame_refusal, halted};
 ghost use Rattle.bench.specs.definitions.Run.{refusal_of, came_as, stepped, step_refusal, goes_on, verdict_of};

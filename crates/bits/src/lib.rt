@@ -1,5 +1,7 @@
 // Bits, words and rows, and the laws of them that every other crate cites. The code is what changes a number's width, or moves bytes, without a
 // question asked.
+#![tactic(auto)]
+
 ghost use Rattle.std.specs.Prelude.{◌≡◌, ◌⊎◌, ◌%◌, ◌^◌, ◌<◌, ◌≤◌, length};
 ghost use Rattle.bits.specs.definitions.Bits.{loaded_at, copied};
 ghost use Rattle.bits.specs.definitions.Put.{PutEight};

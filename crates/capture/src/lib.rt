@@ -1,4 +1,6 @@
 // Capture records, and what stands at a place of a lent capture. The symbols are handed back as the part of the capture where they lie, never copied.
+#![tactic(auto)]
+
 ghost use Rattle.std.specs.Prelude.{◌≡◌, ◌+◌, ◌<◌, ◌≤◌, length};
 ghost use Rattle.capture.specs.definitions.Capture.{layout, big_endian_at, refusal_at, order_at, frame_at, read_at, next_of, read_one};
 ghost use Rattle.capture.specs.definitions.Capture.{symbols_at, wanted};

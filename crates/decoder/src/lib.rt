@@ -1,5 +1,7 @@
 // A word received: at most two bits are mended, or it is flagged; one word, and the 384 words of a frame in one call.
 // A word is two numbers: hi has bits 0 to 61 in its 62 low bits, lo has bits 62 to 125. Bits 0 to 109 are the information, the rest is parity.
+#![tactic(auto)]
+
 ghost use Rattle.std.specs.Prelude.{◌≡◌, ℕ, ◌<◌, ◌+◌, ◌*◌, ◌/◌, ◌%◌, ◌^◌, get_or, length};
 ghost use Rattle.bits.specs.definitions.Bits.{tabulate};
 ghost use Rattle.bits.specs.definitions.Words.{word_of};

@@ -1,4 +1,6 @@
 // The decoder's tables, each with the rule that it keeps. A caller asks for a table once and lends it to what looks things up.
+#![tactic(auto)]
+
 ghost use Rattle.decoder_tables.specs.private.Tables.{IsColumns, IsSingleBits, Finds};
 
 mod tables;

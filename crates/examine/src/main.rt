@@ -1,5 +1,7 @@
 // The program: a capture on standard input, its report on standard output. It holds one record at a time. A read or a write that fails is told on standard
 // error.
+#![tactic(auto)]
+
 ghost use Rattle.std.specs.Prelude.{◌≡◌, true, false, List, ℕ, ◌+◌, ◌<◌, ◌≤◌, pos, length, take};
 ghost use Rattle.bits.specs.definitions.Bits.{AllBytes};
 ghost use Rattle.capture.specs.definitions.Capture.{layout, wanted};

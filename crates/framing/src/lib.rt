@@ -1,4 +1,6 @@
 // One call: a frame sent, or a frame received.
+#![tactic(auto)]
+
 ghost use Rattle.std.specs.Prelude.{◌≡◌, length};
 ghost use Rattle.lanes.specs.definitions.Interleaver.{interleaved_store, deinterleaved_frame, deinterleaved_store};
 ghost use Rattle.lane_words.specs.definitions.LaneWords.{word_lanes};

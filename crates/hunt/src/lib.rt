@@ -1,4 +1,6 @@
 // Where a frame starts in a run of symbols that does not mark it: over the whole run, and piece by piece.
+#![tactic(auto)]
+
 ghost use Rattle.std.specs.Prelude.{◌≡◌, suc, ◌+◌, ◌^◌, ◌<◌, length, set};
 ghost use Rattle.pilots.specs.definitions.Pilots.{locks};
 ghost use Rattle.hunt.specs.definitions.Find.{find};

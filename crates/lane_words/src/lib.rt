@@ -1,5 +1,7 @@
 // A frame's lanes and its 384 words, each way: a lane is twelve words of 110 information bits.
 // Word 32 k + p is word k of lane p. In the order of the lanes it is word 12 p + k, whose first bit is bit 110 (12 p + k) of the frame.
+#![tactic(auto)]
+
 ghost use Rattle.std.specs.Prelude.{◌≡◌, ◌+◌, ◌*◌, ◌-◌, ◌/◌, ◌%◌, ◌^◌, ◌<◌, ◌≤◌, length};
 ghost use Rattle.bits.specs.definitions.Bits.{tabulate, field_at};
 ghost use Rattle.lane_words.specs.definitions.LaneWords.{lane_words, word_lanes};

@@ -1,4 +1,5 @@
 // The account at its limits, and what is due to a frame by its number: what each entry is answered, a line each. The file stdout has what must come.
+#![tactic(auto)]
 
 // The largest number that a field holds.
 const LARGEST: u64 = 18446744073709551615;

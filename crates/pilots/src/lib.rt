@@ -1,4 +1,6 @@
 // Labels and levels, the pilots, the rule of lock, the first offset of a run that keeps it, and the rule over symbols kept in columns.
+#![tactic(auto)]
+
 ghost use Rattle.std.specs.Prelude.{◌≡◌, cond, not, ℕ, ◌+◌, ◌*◌, ◌<◌, ◌≤◌, eqb, ltb, length, get_or};
 ghost use Rattle.bits.specs.definitions.Bits.{tabulate, count, least};
 ghost use Rattle.pilots.specs.definitions.Levels.{level_of, label_of};

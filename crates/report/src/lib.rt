@@ -1,4 +1,6 @@
 // The report of a run as text: each part is written behind the one before it.
+#![tactic(auto)]
+
 ghost use Rattle.std.specs.Prelude.{◌≡◌, ◌++◌, ◌+◌, ◌<◌, ◌≤◌, length, drop};
 ghost use Rattle.report.specs.definitions.Report.{ascii, decimal, line, verdict_line, text, written_bytes, written, longest};
 ghost use Rattle.report.specs.private.Writing.{Wrote, frame_lines, tally_lines};

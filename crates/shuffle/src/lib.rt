@@ -1,5 +1,7 @@
 // The shuffle: the information of each word of a row rotated, that of lane p by 20 p places, and rotated back.
 // A word is two numbers: hi has bits 0 to 61 in its 62 low bits, lo has bits 62 to 125. Word 32 k + p of a row is word k of lane p.
+#![tactic(auto)]
+
 ghost use Rattle.std.specs.Prelude.{◌≡◌, ◌<◌, ◌+◌, ◌*◌, ◌/◌, ◌%◌, ◌^◌, length};
 ghost use Rattle.bits.specs.definitions.Words.{word_bytes};
 ghost use Rattle.shuffle.specs.definitions.Shuffle.{shuffled, unshuffled};

@@ -2,6 +2,8 @@
 // A word is two numbers: hi has bits 0 to 61 in its 62 low bits, lo has bits 62 to 125. Word 32 k + p of a frame is word k of lane p.
 // Row g of a frame's symbols, 64 g to 64 g + 63, is a pilot and 63 symbols of words 4 g to 4 g + 3. Symbol j of the row is number 63 g + 3 + j, of which only
 // the remainder by 4 counts: 63 g + 3 is the number in the pilot's place, where a word has two bits more than its 126.
+#![tactic(auto)]
+
 ghost use Rattle.std.specs.Prelude.{◌≡◌, cond, ◌<◌, ◌≤◌, ◌+◌, ◌*◌, ◌-◌, ◌/◌, ◌%◌, ◌^◌, eqb, get_or, length};
 ghost use Rattle.bits.specs.definitions.Bits.{tabulate};
 ghost use Rattle.pilots.specs.definitions.Table5.{pilots};

@@ -1,5 +1,7 @@
 // Test traffic: the PRBS31 test signal in frames of lanes, frame after frame or any one directly, and the checker of recovered frames.
 // A register's state is 31 bits, the youngest lowest. The signal's bits stand in words of 64, the earliest on top of the first.
+#![tactic(auto)]
+
 ghost use Rattle.std.specs.Prelude.{◌≡◌, ◌⊎◌, ◌+◌, ◌*◌, ◌-◌, ◌/◌, ◌%◌, ◌^◌, ◌<◌, ◌≤◌, length};
 ghost use Rattle.bits.specs.definitions.Bits.{tabulate, count};
 ghost use Rattle.traffic.specs.definitions.Register.{state_from, state_after};
