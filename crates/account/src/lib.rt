@@ -8,7 +8,7 @@ ghost use Rattle.account.specs.definitions.Account.{over, answer, frame_entered,
 
 // How many words had 0, 1 or 2 bits mended, or were flagged.
 #[repr(C)]
-#[derive(Drop)]
+#[derive(Clone, Copy)]
 pub struct Tallies {
     pub clean: u64,
     pub one: u64,
@@ -18,7 +18,7 @@ pub struct Tallies {
 
 // The next expected number, the order's start number, frames accepted and missing, and the tallies of their words.
 #[repr(C)]
-#[derive(Drop)]
+#[derive(Clone, Copy)]
 pub struct Account {
     pub expected: u32,
     pub start: u32,
@@ -28,14 +28,14 @@ pub struct Account {
 }
 
 // An entry's answer: 0 and the new account, or the refusal's number and the account as it was.
-#[derive(Drop)]
+#[derive(Clone, Copy)]
 pub struct Entry {
     pub refusal: u32,
     pub account: Account,
 }
 
 // What may be said of a run.
-#[derive(Drop)]
+#[derive(Clone, Copy)]
 pub enum Verdict {
     NotMeasured,
     Pass,

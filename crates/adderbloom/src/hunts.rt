@@ -6,7 +6,7 @@ ghost use Rattle.adderbloom.specs.definitions.Found.{found_of};
 
 // What a search says: a refusal's number or 0, whether a start was found, 1 or 0, and its offset.
 #[repr(C)]
-#[derive(Drop)]
+#[derive(Clone, Copy)]
 pub struct Found {
     pub refusal: u32,
     pub found: u32,

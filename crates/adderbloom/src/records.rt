@@ -5,7 +5,7 @@ ghost use Rattle.adderbloom.specs.definitions.Record.{record_of};
 
 // A record read: a refusal's number or 0, its kind, its figures, where its symbols lie, and the next place.
 #[repr(C)]
-#[derive(Drop)]
+#[derive(Clone, Copy)]
 pub struct Record {
     pub refusal: u32,
     pub kind: u32,

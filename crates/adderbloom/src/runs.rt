@@ -7,7 +7,7 @@ ghost use Rattle.adderbloom.specs.definitions.Run.{phase_number, phase_of, run_o
 
 // A run as a host keeps it: the phase by its number, the order's figures and the account.
 #[repr(C)]
-#[derive(Drop)]
+#[derive(Clone, Copy)]
 pub struct Run {
     pub phase: u32,
     pub asked: u32,
@@ -16,7 +16,7 @@ pub struct Run {
 }
 
 // A step's answer: its number, and the run.
-#[derive(Drop)]
+#[derive(Clone, Copy)]
 pub struct Answer {
     pub refusal: u32,
     pub run: Run,

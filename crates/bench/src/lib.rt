@@ -8,7 +8,7 @@ ghost use Rattle.bench.specs.definitions.Walk.{examined};
 ghost use Rattle.bench.specs.private.Frame.{SymbolsThere};
 
 // No order yet; going on; stopped by a refusal, a second order, a frame before any order or a read that failed.
-#[derive(Drop)]
+#[derive(Clone, Copy)]
 pub enum Phase {
     Unordered,
     Going,
@@ -16,7 +16,7 @@ pub enum Phase {
 }
 
 // What a run holds: where it stands, the order's figures and the account.
-#[derive(Drop)]
+#[derive(Clone, Copy)]
 pub struct Run {
     pub phase: Phase,
     pub asked: u32,
@@ -25,7 +25,7 @@ pub struct Run {
 }
 
 // A step's answer: the number by which the record was refused, or 0, and the run.
-#[derive(Drop)]
+#[derive(Clone, Copy)]
 pub struct Stepped {
     pub refusal: u32,
     pub run: Run,

@@ -46,7 +46,7 @@ pub const FRAME_BYTES: usize = 6154;
 const MORE_THAN_ONE: u32 = 22;
 
 // What stands at a place: the end, a refusal by its number, an order, or a frame with the place from which its symbols lie; and the next place.
-#[derive(Drop)]
+#[derive(Clone, Copy)]
 pub enum Read {
     End,
     Refused(u32),

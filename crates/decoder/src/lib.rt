@@ -12,7 +12,7 @@ ghost use Rattle.decoder.specs.definitions.Word.{decoded, mended_frame, flags_of
 ghost use Rattle.decoder.specs.private.Answer.{Tells, HasRemainders, MendedAt, confirmed, count_of, pattern_of, flipped_at, plain_at, mended_row, flags_row};
 
 // What decoding flipped: no bit, one, two in rising order; or no code word lies within two bits.
-#[derive(Drop)]
+#[derive(Clone, Copy)]
 pub enum Mend {
     Clean,
     One(u64),
@@ -21,7 +21,7 @@ pub enum Mend {
 }
 
 // The word that is passed on, and what was flipped to get it.
-#[derive(Drop)]
+#[derive(Clone, Copy)]
 pub struct Decoded {
     pub hi: u64,
     pub lo: u64,
@@ -29,14 +29,14 @@ pub struct Decoded {
 }
 
 // A word in two numbers.
-#[derive(Drop)]
+#[derive(Clone, Copy)]
 struct Word {
     hi: u64,
     lo: u64,
 }
 
 // The places that are flipped, in any order, 127 where there is none; and the flag byte.
-#[derive(Drop)]
+#[derive(Clone, Copy)]
 struct Found {
     places: decoder_tables::Pair,
     flag: u8,

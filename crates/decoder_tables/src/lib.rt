@@ -6,14 +6,14 @@ ghost use Rattle.decoder_tables.specs.private.Tables.{IsColumns, IsSingleBits, F
 mod tables;
 
 // Two places, each 127 where there is no bit: what the look-ups of a locator lead to.
-#[derive(Drop)]
+#[derive(Clone, Copy)]
 pub struct Pair {
     pub first: u64,
     pub second: u64,
 }
 
 // From a remainder to the places of the bits that have it.
-#[derive(Drop)]
+#[derive(Clone, Copy)]
 pub struct Locator {
     pub field: [u16; 512],
     pub log: [u8; 128],

@@ -11,7 +11,7 @@ ghost use Rattle.report.specs.definitions.Report.{text, longest};
 ghost use Rattle.examine.specs.definitions.Answer.{negative, NoMore};
 
 // Up to which place a buffer was filled, whether a read failed, which is no end of the input, and what `read` last answered.
-#[derive(Drop)]
+#[derive(Clone, Copy)]
 struct Filled {
     end: usize,
     failed: bool,
@@ -93,7 +93,7 @@ fn step(run: bench::Run, piece: &[u8]) -> bench::Run
 }
 
 // What an input came to: a run, whether a read failed, and what `read` last answered.
-#[derive(Drop)]
+#[derive(Clone, Copy)]
 struct Came {
     run: bench::Run,
     failed: bool,

@@ -7,7 +7,7 @@ ghost use Rattle.hunt.specs.definitions.Find.{find};
 ghost use Rattle.hunt.specs.definitions.Pieces.{opened, kept_place, from_oldest, answer, start_found, piece_taken, Feeds};
 
 // What a search says: a refusal's number; no frame starts in the run; the first starts at this offset.
-#[derive(Drop)]
+#[derive(Clone, Copy)]
 pub enum Found {
     Refused(u32),
     None,
@@ -16,14 +16,14 @@ pub enum Found {
 
 // The numbers that a search keeps: how many symbols were taken in, and whether a start was found, which any number but 0 says.
 #[repr(C)]
-#[derive(Drop)]
+#[derive(Clone, Copy)]
 pub struct Hunt {
     pub taken: u64,
     pub found: u64,
 }
 
 // What is answered to a piece: a refusal's number or 0, and the search after it.
-#[derive(Drop)]
+#[derive(Clone, Copy)]
 pub struct Fed {
     pub refusal: u32,
     pub hunt: Hunt,

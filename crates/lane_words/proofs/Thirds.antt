@@ -42,7 +42,7 @@ module _ {a firsts lasts : List ℕ} (N : Numbers a firsts lasts) where
       e ∙ ap (λ (s : List ℕ). get_or s m 0) N.firsts_are ∙ get_d_tabulate 576 (first_at a) m 0 h ∙ sym (number_is a (m / 6) (m % 6) b (omega arith))
 
   last_at_lem : (g b : ℕ) {x : ℕ} → x ≡ get_or lasts g 0 → g < 96 → b ≡ 440 * g + 376 → x ≡ field_at a b 64
-  last_at_lem g b e h eb = e ∙ ap (λ (s : List ℕ). get_or s g 0) N.Lasts-are ∙ get_d_tabulate 96 (last_at a) g 0 h ∙ sym (number_is a g 6 b eb)
+  last_at_lem g b e h eb = e ∙ ap (λ (s : List ℕ). get_or s g 0) N.lasts_are ∙ get_d_tabulate 96 (last_at a) g 0 h ∙ sym (number_is a g 6 b eb)
 
 -- what `joined` gives
 abbrev pub join : ℕ → ℕ → ℕ → ℕ

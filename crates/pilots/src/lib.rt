@@ -15,14 +15,14 @@ mod tables;
 const LEAST_RIGHT: u8 = 8;
 
 // A label's signed level.
-#[derive(Drop)]
+#[derive(Clone, Copy)]
 pub enum Level {
     At(i8),
     None,
 }
 
 // A level's label.
-#[derive(Drop)]
+#[derive(Clone, Copy)]
 pub enum Label {
     Is(u8),
     None,

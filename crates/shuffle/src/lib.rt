@@ -8,14 +8,14 @@ ghost use Rattle.shuffle.specs.definitions.Shuffle.{shuffled, unshuffled};
 ghost use Rattle.shuffle.specs.private.Rotation.{crossed, rotated_first, rotated, Holds, HoldsBytes, LaneRotated, rotated_row};
 
 // A word in two numbers.
-#[derive(Drop)]
+#[derive(Clone, Copy)]
 struct Word {
     hi: u64,
     lo: u64,
 }
 
 // Two halves of a word's information, 55 bits each.
-#[derive(Drop)]
+#[derive(Clone, Copy)]
 struct Halves {
     first: u64,
     second: u64,

@@ -24,7 +24,7 @@ const HALF: u64 = 0xFFFFF00000000000;
 const EVEN: u64 = 0xFFC00FFC00000000;
 
 // A block of each of four lanes.
-#[derive(Drop)]
+#[derive(Clone, Copy)]
 struct Four {
     a: u64,
     b: u64,
