@@ -2,7 +2,6 @@
 use mathlib.Core.Logic.{inl, inr}
 use native.Mathlib.Nat.{le_refl}
 use native.Mathlib.Omega.{arith}
-use borrow.Author.Rules.{rules}
 use Rattle.bits.proofs.copy.Goals as goal
 
 pub copy_first-requires : goal.copy_first-requires

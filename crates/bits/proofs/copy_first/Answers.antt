@@ -1,8 +1,6 @@
 -- `bits::copy_first` meets its contract: the bytes before byte i are copied. Assumes nothing.
 use mathlib.Core.Path.{◌≡◌, refl}
-use Prim.Native.Nat.{◌≤◌, ◌-◌}
-use lib.ListN.{length, get_or}
-use Rattle.bits.proofs.Filling.{Filling, filling_start, filling_step, filling_copied}
+use Rattle.bits.proofs.Filling.{filling_start, filling_step, filling_copied}
 use native.Mathlib.Omega.{arith}
 use Rattle.bits.proofs.copy_first.Goals as goal
 

@@ -1,8 +1,7 @@
 -- `bits::load` meets its contract: the last j bytes are loaded. Assumes nothing.
 use mathlib.Core.Path.{sym, ◌∙◌}
-use Prim.Native.Nat.{◌-◌}
 use native.Mathlib.Omega.{arith}
-use Rattle.bits.proofs.Joins.{Loading, loading_start, loading_step, loading_lt, loading_done, loaded_is, loaded_none}
+use Rattle.bits.proofs.Joins.{loading_start, loading_step, loading_lt, loading_done, loaded_is, loaded_none}
 use Rattle.bits.proofs.load.Goals as goal
 
 pub returns-then-s-lt8 : goal.returns-then-s-lt8

@@ -1,8 +1,8 @@
 -- `bits::put` meets its contract: byte by byte, the reversed number from below. Assumes nothing.
 use mathlib.Core.Path.{refl, ap, ◌∙◌}
-use Prim.Native.Nat.{ℕ, ◌*◌, ◌-◌, ◌/◌, ◌%◌, ◌^◌}
+use Prim.Native.Nat.{ℕ, ◌*◌, ◌/◌, ◌%◌, ◌^◌}
 use native.Mathlib.Omega.{arith}
-use Rattle.bits.proofs.Joins.{Putting, putting_start, putting_step, putting_done, reversed_byte}
+use Rattle.bits.proofs.Joins.{putting_start, putting_step, putting_done, reversed_byte}
 use Rattle.bits.proofs.put.Goals as goal
 
 pub returns-then-out-lt8 : goal.returns-then-out-lt8

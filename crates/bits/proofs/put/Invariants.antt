@@ -1,8 +1,6 @@
 -- `bits::put` meets its contract: byte by byte, the reversed number from below. Assumes nothing.
-use mathlib.Core.Path.{refl, ap, ◌∙◌}
-use Prim.Native.Nat.{ℕ, ◌*◌, ◌-◌, ◌/◌, ◌%◌, ◌^◌}
-use native.Mathlib.Omega.{arith}
-use Rattle.bits.proofs.Joins.{Putting, putting_start, putting_step, putting_done, reversed_byte}
+use Prim.Native.Nat.{◌-◌}
+use Rattle.bits.proofs.Joins.{Putting}
 use Rattle.bits.proofs.put.Given as goal
 
 abbrev pub invariant-loop-j : goal.invariant-loop-j

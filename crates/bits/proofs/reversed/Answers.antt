@@ -1,7 +1,6 @@
 -- `bits::reversed` meets its contract: `reversed_law`. Assumes nothing.
 use native.Mathlib.Omega.{arith}
 use Rattle.bits.proofs.Joins.{eight_bytes, reversed_law}
-use borrow.Author.Rules.{rules}
 use Rattle.bits.proofs.reversed.Goals as goal
 
 pub overflow_add-result-7 : goal.overflow_add-result-7

@@ -1,9 +1,0 @@
--- `bch::fold_upper` meets its contract: 31 bits above 64, and the 31 above those. Assumes nothing.
-use mathlib.Core.Path.{refl}
-use borrow.Author.Rules.{rules}
-use Rattle.bch.proofs.Folding.{fold_upper_law}
-use Rattle.bch.proofs.fold_upper.Statement.{statement}
-use Rattle.bch.proofs.fold_upper.Tie as tie
-
-pub fold_upper_spec : {M : Type 1} → statement M
-fold_upper_spec = tie.close (tie.spec (λ c. fold_upper_law c.args.hi c.args.lo _ _ (search rules) refl refl))
