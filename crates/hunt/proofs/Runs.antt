@@ -2,7 +2,7 @@
 -- Assumes nothing.
 use mathlib.Core.Path.{◌≡◌, refl, sym, ap, ◌∙◌, subst}
 use mathlib.Core.Logic.{◌≢◌, inl, inr}
-use mathlib.Core.Bool.{Bool, true, false, cond, false≢true}
+use mathlib.Core.Bool.{Bool, true, cond, false≢true}
 use mathlib.Core.List.{List, [], ◌++◌, append-nil}
 use Prim.Native.Nat.{ℕ, zero, suc, ◌+◌, ◌*◌, ◌^◌, ◌<◌, ◌≤◌}
 use native.Mathlib.Nat.{not-suc-le-zero, le_refl, zero-add}
@@ -19,7 +19,6 @@ use Rattle.bits.proofs.Least.{least_fails}
 use Rattle.pilots.specs.definitions.Pilots.{locks, offsets, first_lock}
 use Rattle.pilots.proofs.Lock.{locks_alike}
 use Rattle.hunt.specs.declared.Hunt.{Hunt}
-use Rattle.hunt.specs.declared.Found.TheVariants as found
 use Rattle.hunt.specs.definitions.Find.{find, Starts}
 use Rattle.hunt.specs.definitions.Pieces.{Search, opened, kept_place, piece_taken, feed_number, Feeds, FeedRun, joined, not_refused}
 use Rattle.hunt.specs.statements.Hunt.{FoundByThen, HoweverCut, AllFed, AllTaken, FrameKept, CanBeFed}
