@@ -42,16 +42,16 @@ due_by_number a got hs hg = (
 -- ---- the tallied words, from their first place on
 
 -- in code
-by_place : (x y : Bool) (place : ℕ) → place < 384 → leb (cond x 384 (cond y 64 0)) place ≡ cond x false (cond y (leb 64 place) true)
-by_place true y place h = lt-leb 384 place (omega arith)
-by_place false true place h = refl
-by_place false false place h = le-leb 0 place (omega arith)
-
 pub from_first : (a : Account) (got : ℕ) (flags : List ℕ) (v first : ℕ) → first ≡ by_number a got 384 64 0
     → count (λ place. leb first place && eqb (get_or flags place 0) v) 384 ≡ counted a got flags v
 unfolding counted
 from_first a got flags v first e =
     rw e (count_cong 384 _ _ (λ place h k. by_place (eqb (ahead got a.start) 0) (eqb (ahead got a.start) 1) place h k && eqb (get_or flags place 0) v))
+  where
+    by_place : (x y : Bool) (place : ℕ) → place < 384 → leb (cond x 384 (cond y 64 0)) place ≡ cond x false (cond y (leb 64 place) true)
+    by_place true y place h = lt-leb 384 place (omega arith)
+    by_place false true place h = refl
+    by_place false false place h = le-leb 0 place (omega arith)
 
 pub first_inside : (a : Account) (got : ℕ) → by_number a got 384 64 0 ≤ 384
 first_inside a got = go (eqb (ahead got a.start) 0) (eqb (ahead got a.start) 1)

@@ -5,4 +5,3 @@ pub mod One
 pub mod Records
 pub mod Determined
 pub mod Examples
-pub mod Readers

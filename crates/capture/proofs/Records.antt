@@ -82,7 +82,7 @@ module _ (s : List ℕ) (B : AllBytes s) where
       ∙ ap (λ (l : List ℕ). layout.version ∷ layout.order_kind ∷ l)
       (number_stands layout.start_at start (omega arith) O.start_is
       ∙ ap (λ (l : List ℕ). big_endian start ++ l)
-      (number_stands layout.asked_at asked (omega arith) O.Asked-is
+      (number_stands layout.asked_at asked (omega arith) O.asked_is
       ∙ ap (λ (l : List ℕ). big_endian asked ++ l) (number_stands layout.allowed_at allowed (omega arith) O.allowed_is)))))
 
   module _ {number from next : ℕ} (F : FrameStands s 0 number from next) where
@@ -109,7 +109,7 @@ pub order_stands : OrderFound
 order_stands s start asked allowed next B e =
     let O = order_found s 0 e in (
       rw O.start_is (big_endian_lt s B layout.start_at),
-      rw O.Asked-is (big_endian_lt s B layout.asked_at),
+      rw O.asked_is (big_endian_lt s B layout.asked_at),
       rw O.allowed_is (big_endian_lt s B layout.allowed_at),
       O.next_is,
       order_bytes s B O,

@@ -218,7 +218,7 @@ pub fn read_one(piece: &[u8]) -> Read
 }
 
 // A reader walks over one lent capture and keeps its place.
-#[derive(Drop)]
+#[derive(Clone, Copy)]
 pub struct Reader<'a> {
     pub capture: &'a [u8],
     pub place: usize,
