@@ -107,7 +107,7 @@ hunt_determined κs a x y s t p q = (p ∙ sym q, tt)
 pub hunt_answer_determined : Fixes 0 hunt-answer-kinds.ps hunt-answer-kinds.r hunt-answer-reads.Post (λ κs s t. Unit)
 hunt_answer_determined κs a x y s t p q = (p ∙ sym q, tt)
 
--- The functions that are lent an account, a run or a search's numbers are proved by a walk.
+-- The functions that are lent an account, a run or a search's numbers, over what their clauses say.
 
 -- two entries that are equal, part by part
 parts : (x y : Entry) → x ≡ y → (x.refusal ≡ y.refusal) × (x.account ≡ y.account)

@@ -7,8 +7,7 @@ ghost use Rattle.report.specs.definitions.Report.{written, written_bytes};
 
 // The report of a capture, at the beginning of a lent buffer; the answer is how many bytes it takes. A buffer too small for it is not touched, and the answer
 // is 0.
-#[unsafe(no_mangle)]
-pub extern "C" fn lr800_examine(capture: &[u8], text: &mut [u8]) -> usize
+pub fn lr800_examine(capture: &[u8], text: &mut [u8]) -> usize
     ensures { (result ≡ written_bytes (examined capture.now) text.old)
         × (text.new ≡ written (examined capture.now) text.old) }
 {
@@ -17,8 +16,7 @@ pub extern "C" fn lr800_examine(capture: &[u8], text: &mut [u8]) -> usize
 }
 
 // The verdict of a capture: 0 not measured, 1 PASS, 2 FAIL.
-#[unsafe(no_mangle)]
-pub extern "C" fn lr800_examine_verdict(capture: &[u8]) -> u32
+pub fn lr800_examine_verdict(capture: &[u8]) -> u32
     ensures { result ≡ verdict_number (verdict_of (examined capture.now)) }
 {
     let run = bench::examine_capture(capture);

@@ -4,8 +4,7 @@ ghost use Rattle.account.specs.definitions.Account.{opened, loss_entered};
 ghost use Rattle.adderbloom.specs.definitions.Entry.{flags_entered};
 
 // The account of a new order, from this number on.
-#[unsafe(no_mangle)]
-pub extern "C" fn lr800_account_open(a: &mut account::Account, start: u32)
+pub fn lr800_account_open(a: &mut account::Account, start: u32)
     ensures { a.new ≡ opened start }
 {
     *a = account::opened(start);
@@ -28,8 +27,7 @@ fn enter_flags(a: account::Account, got: u32, flags: &[u8]) -> account::Entry
 }
 
 // A frame by its flag bytes. Refused: 4 not 384 of them, 10 late, 11 a limit is passed, 12 some that are tallied are above 3.
-#[unsafe(no_mangle)]
-pub extern "C" fn lr800_account_enter(a: &mut account::Account, got: u32, flags: &[u8]) -> u32
+pub fn lr800_account_enter(a: &mut account::Account, got: u32, flags: &[u8]) -> u32
     ensures { record { refusal = result; account = a.new } ≡ flags_entered a.old got flags.now }
 {
     let e = enter_flags(*a, got, flags);
@@ -38,8 +36,7 @@ pub extern "C" fn lr800_account_enter(a: &mut account::Account, got: u32, flags:
 }
 
 // A loss, a frame without lock. Refused: 10 late, 11 a limit is passed.
-#[unsafe(no_mangle)]
-pub extern "C" fn lr800_account_lose(a: &mut account::Account, got: u32) -> u32
+pub fn lr800_account_lose(a: &mut account::Account, got: u32) -> u32
     ensures { record { refusal = result; account = a.new } ≡ loss_entered a.old got }
 {
     let e = account::lose(*a, got);

@@ -37,8 +37,7 @@ fn found_of(f: hunt::Found) -> Found
 }
 
 // The first start of a whole run. Refused: 13, it is shorter than a frame.
-#[unsafe(no_mangle)]
-pub extern "C" fn lr800_hunt(run: &[u8]) -> Found
+pub fn lr800_hunt(run: &[u8]) -> Found
     ensures { result ≡ found_of (find run.now) }
 {
     let f = hunt::find(run);
@@ -46,8 +45,7 @@ pub extern "C" fn lr800_hunt(run: &[u8]) -> Found
 }
 
 // A search before its first piece.
-#[unsafe(no_mangle)]
-pub extern "C" fn lr800_hunt_open(state: &mut hunt::Hunt)
+pub fn lr800_hunt_open(state: &mut hunt::Hunt)
     ensures { state.new ≡ opened }
 {
     *state = hunt::opened();
@@ -55,8 +53,7 @@ pub extern "C" fn lr800_hunt_open(state: &mut hunt::Hunt)
 
 // The next piece. Refused: 2, other than 6,144 symbols are kept; 23, no start was found yet and the symbols taken in and the piece's
 // are 2^64 or more together.
-#[unsafe(no_mangle)]
-pub extern "C" fn lr800_hunt_feed(state: &mut hunt::Hunt, kept: &mut [u8], piece: &[u8]) -> u32
+pub fn lr800_hunt_feed(state: &mut hunt::Hunt, kept: &mut [u8], piece: &[u8]) -> u32
     ensures { Feeds state.old kept.old piece.now result state.new kept.new }
 {
     let f = hunt::feed(*state, kept, piece);
@@ -65,8 +62,7 @@ pub extern "C" fn lr800_hunt_feed(state: &mut hunt::Hunt, kept: &mut [u8], piece
 }
 
 // The first start of what was taken in. Refused: 13, it is less than a frame.
-#[unsafe(no_mangle)]
-pub extern "C" fn lr800_hunt_answer(state: hunt::Hunt) -> Found
+pub fn lr800_hunt_answer(state: hunt::Hunt) -> Found
     ensures { result ≡ found_of (answer state) }
 {
     let f = hunt::answer(state);

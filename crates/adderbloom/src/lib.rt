@@ -1,12 +1,12 @@
-// What a rig's host program in C calls. A slice passes as a pointer and a length, in that order.
+// What a rig's host program calls; `adderbloom_c` gives it to C under the same names.
 #![tactic(auto)]
 
-mod captures;
-mod entries;
-mod hunts;
-mod records;
-mod runs;
-mod test_traffic;
+pub mod captures;
+pub mod entries;
+pub mod hunts;
+pub mod records;
+pub mod runs;
+pub mod test_traffic;
 
 ghost use Rattle.framing.specs.definitions.Places.{base};
 ghost use Rattle.framing.specs.definitions.Send.{Sends};
@@ -15,21 +15,14 @@ ghost use Rattle.std.specs.Prelude.{◌≡◌, not, eqb};
 ghost use Rattle.account.specs.definitions.Account.{verdict, verdict_number};
 
 // A frame sent: 5,280 bytes of lanes in, 6,144 symbols out, 2,880 bytes of store kept. Refusals 1, 2, 3 change nothing.
-#[unsafe(no_mangle)]
-pub extern "C" fn lr800_send(input: &[u8], store: &mut [u8], output: &mut [u8]) -> u32
+pub fn lr800_send(input: &[u8], store: &mut [u8], output: &mut [u8]) -> u32
     ensures { Sends base input.now store.old output.old result store.new output.new }
 {
     framing::send(input, store, output)
 }
 
 // A frame received: 6,144 symbols in, 5,280 bytes of lanes and 384 flag bytes out, 2,880 bytes of store kept. Refusals 1 to 5 change nothing.
-#[unsafe(no_mangle)]
-pub extern "C" fn lr800_receive(
-    input: &[u8],
-    store: &mut [u8],
-    output: &mut [u8],
-    flags: &mut [u8],
-) -> u32
+pub fn lr800_receive(input: &[u8], store: &mut [u8], output: &mut [u8], flags: &mut [u8]) -> u32
     ensures { Receives base input.now store.old output.old flags.old
         result store.new output.new flags.new }
 {
@@ -37,8 +30,7 @@ pub extern "C" fn lr800_receive(
 }
 
 // The verdict on a run's numbers: 0 not measured, 1 PASS, 2 FAIL. A run that was stopped is not measured, whatever its numbers.
-#[unsafe(no_mangle)]
-pub extern "C" fn lr800_verdict(
+pub fn lr800_verdict(
     asked: u32,
     allowed: u32,
     accepted: u64,

@@ -17,8 +17,7 @@ pub struct Record {
 }
 
 // What stands at a place of a capture; any place is lawful, also one beyond the end.
-#[unsafe(no_mangle)]
-pub extern "C" fn lr800_read(capture: &[u8], place: usize) -> Record
+pub fn lr800_read(capture: &[u8], place: usize) -> Record
     ensures { result ≡ record_of (read_at capture.now place) place }
 {
     let read = capture::read_at(capture, place);
@@ -68,8 +67,7 @@ pub extern "C" fn lr800_read(capture: &[u8], place: usize) -> Record
 }
 
 // How many bytes of a record to ask for, by those that are there.
-#[unsafe(no_mangle)]
-pub extern "C" fn lr800_wanted(piece: &[u8]) -> usize
+pub fn lr800_wanted(piece: &[u8]) -> usize
     ensures { result ≡ wanted piece.now }
 {
     capture::wanted(piece)

@@ -103,16 +103,14 @@ fn stepped(r: Run, piece: &[u8]) -> Answer
 }
 
 // A run before its first record, in place of the one lent.
-#[unsafe(no_mangle)]
-pub extern "C" fn lr800_run_open(r: &mut Run)
+pub fn lr800_run_open(r: &mut Run)
     ensures { r.new ≡ kept_run begun }
 {
     *r = opened();
 }
 
 // One record's bytes, and what they change of the run. Refused, which stops the run: 6 to 9 the record, 10 and 11 its entry, 22 more than one record.
-#[unsafe(no_mangle)]
-pub extern "C" fn lr800_run_step(r: &mut Run, piece: &[u8]) -> u32
+pub fn lr800_run_step(r: &mut Run, piece: &[u8]) -> u32
     ensures { record { refusal = result; run = r.new } ≡ step_answer r.old piece.now }
 {
     let s = stepped(*r, piece);
@@ -121,24 +119,21 @@ pub extern "C" fn lr800_run_step(r: &mut Run, piece: &[u8]) -> u32
 }
 
 // The run stopped, as by a read that failed: its figures and its account stay.
-#[unsafe(no_mangle)]
-pub extern "C" fn lr800_run_stop(r: &mut Run)
+pub fn lr800_run_stop(r: &mut Run)
     ensures { r.new ≡ kept_run (stopped (run_of r.old)) }
 {
     *r = stopped(*r);
 }
 
 // The verdict of a run: 0 not measured, 1 PASS, 2 FAIL.
-#[unsafe(no_mangle)]
-pub extern "C" fn lr800_run_verdict(r: Run) -> u32
+pub fn lr800_run_verdict(r: Run) -> u32
     ensures { result ≡ verdict_number (verdict_of (run_of r)) }
 {
     account::verdict_number(bench::verdict_of(run_of(r)))
 }
 
 // The report of a run, at the beginning of a lent buffer; the answer is how many bytes it takes. A buffer too small for it is not touched, and the answer is 0.
-#[unsafe(no_mangle)]
-pub extern "C" fn lr800_run_report(r: Run, text: &mut [u8]) -> usize
+pub fn lr800_run_report(r: Run, text: &mut [u8]) -> usize
     ensures { (result ≡ written_bytes (run_of r) text.old) × (text.new ≡ written (run_of r) text.old) }
 {
     report::report(run_of(r), text)

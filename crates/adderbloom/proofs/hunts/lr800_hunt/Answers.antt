@@ -1,0 +1,7 @@
+-- `adderbloom::hunts::lr800_hunt` meets its contract: the numbers of what the search says. Assumes nothing.
+use mathlib.Core.Path.{ap, ◌∙◌}
+use Rattle.adderbloom.specs.definitions.Found.{found_of}
+use Rattle.adderbloom.proofs.hunts.lr800_hunt.Goals as goal
+
+pub returns : goal.returns
+returns c = c.found_of.ensures ∙ ap found_of c.find-f.ensures
