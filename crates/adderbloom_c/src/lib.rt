@@ -1,0 +1,64 @@
+// The C interface: what a rig's host program in C calls, each function under the name that C sees, with the contract of `adderbloom`'s function of that name,
+// which it calls. A slice passes as a pointer and a length, in that order.
+#![tactic(auto)]
+
+mod captures;
+mod entries;
+mod hunts;
+mod records;
+mod runs;
+mod test_traffic;
+
+ghost use Rattle.framing.specs.definitions.Places.{base};
+ghost use Rattle.framing.specs.definitions.Send.{Sends};
+ghost use Rattle.framing.specs.definitions.Receive.{Receives};
+ghost use Rattle.std.specs.Prelude.{◌≡◌, not, eqb};
+ghost use Rattle.account.specs.definitions.Account.{verdict, verdict_number};
+
+// A frame sent: 5,280 bytes of lanes in, 6,144 symbols out, 2,880 bytes of store kept. Refusals 1, 2, 3 change nothing.
+#[unsafe(no_mangle)]
+pub extern "C" fn lr800_send(input: &[u8], store: &mut [u8], output: &mut [u8]) -> u32
+    ensures { Sends base input.now store.old output.old result store.new output.new }
+{
+    adderbloom::lr800_send(input, store, output)
+}
+
+// A frame received: 6,144 symbols in, 5,280 bytes of lanes and 384 flag bytes out, 2,880 bytes of store kept. Refusals 1 to 5 change nothing.
+#[unsafe(no_mangle)]
+pub extern "C" fn lr800_receive(
+    input: &[u8],
+    store: &mut [u8],
+    output: &mut [u8],
+    flags: &mut [u8],
+) -> u32
+    ensures { Receives base input.now store.old output.old flags.old
+        result store.new output.new flags.new }
+{
+    adderbloom::lr800_receive(input, store, output, flags)
+}
+
+// The verdict on a run's numbers: 0 not measured, 1 PASS, 2 FAIL. A run that was stopped is not measured, whatever its numbers.
+#[unsafe(no_mangle)]
+pub extern "C" fn lr800_verdict(
+    asked: u32,
+    allowed: u32,
+    accepted: u64,
+    missing: u64,
+    clean: u64,
+    one: u64,
+    two: u64,
+    flagged: u64,
+    stopped: u32,
+) -> u32
+    ensures { result ≡ verdict_number (verdict asked allowed (record {
+      expected = 0;
+      start = 0;
+      accepted = accepted;
+      missing = missing;
+      words = record { clean = clean; one = one; two = two; flagged = flagged };
+    }) (not (eqb stopped 0))) }
+{
+    adderbloom::lr800_verdict(
+        asked, allowed, accepted, missing, clean, one, two, flagged, stopped,
+    )
+}
