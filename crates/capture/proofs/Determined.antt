@@ -1,12 +1,19 @@
 -- Each public function's contract fixes its outcome: two outcomes of one call that satisfy its `ensures`, as the source states it, are equal.
 -- Of a part that is handed back the content is fixed.
 -- Assumes nothing.
-use mathlib.Core.Path.{◌≡◌, sym, ◌∙◌}
+use mathlib.Core.Path.{◌≡◌, refl, sym, ◌∙◌}
+use seplogic.Ra.Ura.{Ura}
+use base.Logic.{SProp}
+use prog.Memory.{Memory}
+use prog.Routine.{Routine}
+use types.Logic.{Logic}
 use contract.Lifetimes.{Lfts}
+use contract.Monad.{Fun}
 use denote.Triple.Clauses.{AtExit}
 use borrow.Fn.Kinds.{Dens, res_t, ended_of}
-use Rattle.bits.proofs.Fixes.{Fixes}
+use Rattle.bits.proofs.Fixes.{Fixes, FixesSaid}
 use Rattle.capture.specs.declared.Reader.{Reader}
+use Rattle.capture.specs.definitions.Capture.{read_at, symbols_at}
 use Rattle.capture.proofs.read_at.Kinds as read-kinds
 use Rattle.capture.proofs.read_at.Reads as read-reads
 use Rattle.capture.proofs.symbols_at.Kinds as symbols-kinds
@@ -17,14 +24,10 @@ use Rattle.capture.proofs.wanted.Kinds as wanted-kinds
 use Rattle.capture.proofs.wanted.Reads as wanted_reads
 use Rattle.capture.proofs.read_one.Kinds as one-kinds
 use Rattle.capture.proofs.read_one.Reads as one-reads
-use Rattle.capture.proofs.begin.Kinds as begin-kinds
-use Rattle.capture.proofs.begin.Reads as begin-reads
-use Rattle.capture.proofs.next.Kinds as next-kinds
-use Rattle.capture.proofs.next.Reads as next-reads
-use Rattle.capture.proofs.moved.Kinds as moved-kinds
-use Rattle.capture.proofs.moved.Reads as moved-reads
-use Rattle.capture.proofs.symbols.Kinds as part-kinds
-use Rattle.capture.proofs.symbols.Reads as part-reads
+use Rattle.capture.specs.contracts.begin as begin
+use Rattle.capture.specs.contracts.next as next
+use Rattle.capture.specs.contracts.moved as moved
+use Rattle.capture.specs.contracts.symbols as symbols
 
 -- what was read, and no buffer
 pub read_at_determined : Fixes 1 read-kinds.ps read-kinds.r read-reads.Post (λ κs s t. Unit)
@@ -47,21 +50,23 @@ next_place_determined κs a x y s t p q = (p ∙ sym q, tt)
 pub wanted_determined : Fixes 1 wanted-kinds.ps wanted-kinds.r wanted_reads.Post (λ κs s t. Unit)
 wanted_determined κs a x y s t p q = (p ∙ sym q, tt)
 
+-- The functions of the reader, over what their clauses say.
+
 -- two readers, by their fields
 alike : {x y : Reader} → x.capture ≡ y.capture → x.place ≡ y.place → x ≡ y
 alike p q = λ k. record { capture = p k; place = q k }
 
-pub begin_determined : Fixes 1 begin-kinds.ps begin-kinds.r begin-reads.Post (λ κs s t. Unit)
-begin_determined κs a x y s t p q = (alike (p.0 ∙ sym q.0) (p.1 ∙ sym q.1), tt)
+module _ {M : Type 1} {𝓤 : Ura M} (𝓛 : Logic 𝓤) (mem : Memory → SProp 𝓤) (run : Routine → Fun 𝓤) where
+  pub begin_determined : FixesSaid 𝓤 begin.ended (begin.clauses 𝓛 mem run) (λ κs x y s t. x ≡ y)
+  begin_determined κs a g =
+      ((λ r s. (r.capture ≡ a.0) × (r.place ≡ 0)), (λ x s. refl), (λ x y s t p q. alike (p.0 ∙ sym q.0) (p.1 ∙ sym q.1)))
 
-pub next_determined : Fixes 1 next-kinds.ps next-kinds.r next-reads.Post (λ κs s t. Unit)
-next_determined κs a x y s t p q = (p ∙ sym q, tt)
+  pub next_determined : FixesSaid 𝓤 next.ended (next.clauses 𝓛 mem run) (λ κs x y s t. x ≡ y)
+  next_determined κs a g = ((λ r s. r ≡ read_at a.0.capture.now a.0.place), (λ x s. refl), (λ x y s t p q. p ∙ sym q))
 
-pub moved_determined : Fixes 1 moved-kinds.ps moved-kinds.r moved-reads.Post (λ κs s t. Unit)
-moved_determined κs a x y s t p q = (alike (p.0 ∙ sym q.0) (p.1 ∙ sym q.1), tt)
+  pub moved_determined : FixesSaid 𝓤 moved.ended (moved.clauses 𝓛 mem run) (λ κs x y s t. x ≡ y)
+  moved_determined κs a g =
+      ((λ r s. (r.capture ≡ a.0.capture) × (r.place ≡ a.1.0)), (λ x s. refl), (λ x y s t p q. alike (p.0 ∙ sym q.0) (p.1 ∙ sym q.1)))
 
--- the content of the part
-pub symbols_determined : (κs : Lfts 1) (a : Dens κs part-kinds.ps) (x y : (res_t part-kinds.r κs).Denot)
-    (s t : AtExit (ended_of 1 part-kinds.ps part-kinds.r) κs)
-    → part-reads.Post κs a x s → part-reads.Post κs a y t → x.now ≡ y.now
-symbols_determined κs a x y s t p q = p ∙ sym q
+  pub symbols_determined : FixesSaid 𝓤 symbols.ended (symbols.clauses 𝓛 mem run) (λ κs x y s t. x.now ≡ y.now)
+  symbols_determined κs a g = ((λ r s. r.now ≡ symbols_at a.0.capture.now a.1.0), (λ x s. refl), (λ x y s t p q. p ∙ sym q))

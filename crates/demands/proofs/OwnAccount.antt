@@ -4,7 +4,7 @@ use mathlib.Core.Path.{◌≡◌, refl, sym, ap, ◌∙◌, subst}
 use mathlib.Core.Bool.{not}
 use mathlib.Core.Logic.{◌≢◌, ◌⊎◌, inl, inr, ◌↔◌}
 use mathlib.Core.List.{List, [], ◌∷◌, append_assoc}
-use Prim.Native.Nat.{ℕ, zero, suc, ◌-◌, ◌<◌, ◌≤◌}
+use Prim.Native.Nat.{ℕ, zero, suc, ◌<◌, ◌≤◌}
 use native.Mathlib.Decide.{ℕ_discrete}
 use native.Mathlib.Omega.{arith}
 use lib.Dec.{eqb}
@@ -20,7 +20,7 @@ use Rattle.capture.specs.declared.Read.TheVariants.{End, Refused, Order, Frame}
 use Rattle.capture.specs.definitions.Capture.{read_at, wanted, order_record, frame_records}
 use Rattle.bench.specs.declared.Run.{Run}
 use Rattle.bench.specs.declared.Phase.TheVariants.{Going, Stopped}
-use Rattle.bench.specs.definitions.Run.{stopped, after_entry, entry_of, order_came, frame_came, came_as, stepped, goes_on, verdict_of}
+use Rattle.bench.specs.definitions.Run.{after_entry, entry_of, order_came, frame_came, came_as, stepped, goes_on, verdict_of}
 use Rattle.bench.specs.definitions.Walk.{cut, pieces, through, examined}
 use Rattle.bench.proofs.Walk.{end, refused_stops, through_stays, step_piece, pieces_first}
 use Rattle.adderbloom.specs.definitions.Entry.{flags_entered}
