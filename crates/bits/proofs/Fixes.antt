@@ -25,8 +25,8 @@ FixesTyped n ps r typed ensures buffers =
     (κs : Lfts n) (a : Dens κs ps) (x y : (res_t r κs).Denot) (s t : AtExit (ended_of n ps r) κs) → typed κs x → typed κs y → ensures κs a x s
     → ensures κs a y t → (x ≡ y) × buffers κs s t
 
--- The `ensures` of a function that is proved by a walk stands as an assertion of the logic. It is a plain fact `says` of the result and of the parameters
--- at exit, and two outcomes of one call of which that holds are alike.
+-- The same of a function's clauses as they stand in the logic: the `ensures` there is a plain fact `says` of the result and of the parameters at exit, and two
+-- outcomes of one call of which that holds are alike.
 abbrev pub FixesSaid : {M : Type 1} (𝓤 : Ura M) (T : Ended) → Clauses 𝓤 T
     → ((κs : Lfts T.signature.lifetimes) → (x y : Res T.signature κs) (s t : AtExit T κs) → Type 0) → Type 2
 FixesSaid 𝓤 T clauses alike =
