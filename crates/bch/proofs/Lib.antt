@@ -2,6 +2,7 @@ pub mod Remainder
 pub mod Lists
 pub mod Entries
 pub mod Folding
+pub mod DigitFold
 pub mod Digits
 pub mod Sent
 pub mod Theorems

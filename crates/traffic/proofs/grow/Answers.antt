@@ -1,16 +1,16 @@
 -- `traffic::grow` meets its contract: each word by those 28 d and 31 d before it, `word_grown`. Assumes nothing.
--- the distances at which it is called
 use mathlib.Core.Path.{◌≡◌, refl, subst}
 use mathlib.Core.Logic.{◌⊎◌, inl, inr}
 use Prim.Native.Nat.{ℕ, ◌*◌, ◌-◌, ◌^◌, ◌<◌}
 use native.Mathlib.Nat.{le_refl}
 use native.Mathlib.Omega.{arith}
 use lib.ListN.{get_or}
-use lib.Bits.{xor_lt}
+use lib.Bits.{bit_xor, xor_lt}
 use Rattle.traffic.specs.private.Stream.{Grows}
 use Rattle.traffic.proofs.Stream.{Rule, rule_64, rule_128, grows_more, word_grown}
 use Rattle.traffic.proofs.grow.Goals as goal
 
+-- the distances at which it is called
 rule_at : (d : ℕ) → (d ≡ 1) ⊎ (d ≡ 2) → Rule (64 * d)
 rule_at d (inl e) = rw e rule_64
 rule_at d (inr e) = rw e rule_128
@@ -24,11 +24,9 @@ loop-n-init c = (le_refl _, c.requires.2, record { long = refl; streams = λ s h
 
 pub overflow_sub-words-in-loop-n-2 : goal.overflow_sub-words-in-loop-n-2
 overflow_sub-words-in-loop-n-2 c =
-    let m : ℕ = c.loop-n.n - 28 * c.args.d in
-    let k : ℕ = c.loop-n.n - 31 * c.args.d in
-    let a : get_or c.loop-n.words m 0 < 2 ^ 64 = omega (arith, c.slice_known-1.given m) in
-    let b : get_or c.loop-n.words k 0 < 2 ^ 64 = omega (arith, c.slice_known-in-loop-n-1.given k) in
-    omega (arith, xor_lt 64 (get_or c.loop-n.words m 0) (get_or c.loop-n.words k 0) a b)
+    let small : (i j : ℕ) → bit_xor (get_or c.loop-n.words i 0) (get_or c.loop-n.words j 0) < 2 ^ 64 = λ i j.
+    xor_lt 64 (get_or c.loop-n.words i 0) (get_or c.loop-n.words j 0) (omega (arith, c.slice_known-1.given i)) (omega (arith, c.slice_known-in-loop-n-1.given j)) in
+    omega (arith, small)
 
 pub loop-n-preserved : goal.loop-n-preserved
 loop-n-preserved c =
