@@ -2,13 +2,24 @@
 // error.
 #![tactic(auto)]
 
-ghost use Rattle.std.specs.Prelude.{◌≡◌, true, false, List, ℕ, ◌+◌, ◌<◌, ◌≤◌, pos, length, take};
+ghost use Rattle.std.specs.Prelude.{◌≡◌, true, false, List, ℕ, ◌+◌, ◌<◌, ◌≤◌, pos, length, take, IsSome};
 ghost use Rattle.bits.specs.definitions.Bits.{AllBytes};
 ghost use Rattle.capture.specs.definitions.Capture.{layout, wanted};
 ghost use Rattle.bench.specs.definitions.Run.{stopped, stepped, is_stopped};
 ghost use Rattle.bench.specs.definitions.Walk.{followed};
 ghost use Rattle.report.specs.definitions.Report.{text, longest};
-ghost use Rattle.examine.specs.definitions.Answer.{negative, NoMore};
+ghost use Rattle.examine.specs.definitions.Answer.{negative, counted, NoMore};
+
+use std::fmt::InlineText;
+use std::io;
+use std::io::Read;
+
+// A reader, and the error of its last read that failed.
+#[derive(Drop)]
+struct Source<R> {
+    reader: R,
+    error: Option<io::Error>,
+}
 
 // Up to which place a buffer was filled, whether a read failed, which is no end of the input, and what `read` last answered.
 #[derive(Clone, Copy)]
@@ -18,17 +29,32 @@ struct Filled {
     answer: isize,
 }
 
+// One read. It answers as C's does: how many bytes came, 0 at the end of the input, -1 where it failed, and then the error is kept.
+fn read<R: Read>(source: &mut Source<R>, buffer: &mut [u8]) -> isize
+    ensures in_bounds { counted result ≤ length buffer.new }
+    ensures kept { negative result ≡ true → IsSome source.new.error }
+{
+    match source.reader.read(buffer) {
+        Ok(n) => n as isize,
+        Err(e) => {
+            source.error = Some(e);
+            -1
+        }
+    }
+}
+
 // Reads into a buffer from a place on, until another is reached, the input ends or a read fails.
-fn fill(fd: i32, buffer: &mut [u8], from: usize, to: usize) -> Filled
+fn fill<R: Read>(source: &mut Source<R>, buffer: &mut [u8], from: usize, to: usize) -> Filled
     requires { (from ≤ to) × (to ≤ length buffer.old) }
-    ensures { (result.end ≤ to) × (length buffer.new ≡ length buffer.old)
+    ensures filled { (result.end ≤ to) × (length buffer.new ≡ length buffer.old)
         × (take from buffer.new ≡ take from buffer.old)
         × (result.failed ≡ negative result.answer) × (result.end < to → NoMore result.answer) }
+    ensures kept { result.failed ≡ true → IsSome source.new.error }
 {
     let mut at: usize = from;
     let mut answer: isize = 1;
     while at < to {
-        let got = libc::read(fd, &mut buffer[at..to]);
+        let got = read(source, &mut buffer[at..to]);
         if got < 0 {
             return Filled {
                 end: at,
@@ -36,7 +62,7 @@ fn fill(fd: i32, buffer: &mut [u8], from: usize, to: usize) -> Filled
                 answer: got,
             };
         }
-        let n = io::count(got, &buffer[at..to]);
+        let n = got as usize;
         if n == 0 {
             return Filled {
                 end: at,
@@ -63,14 +89,15 @@ fn wanted(buffer: &[u8], n: usize) -> usize
 }
 
 // The next record comes to stand at the beginning of a buffer: its length, then as many bytes as that asks for, or what is left of the input.
-fn next_piece(fd: i32, buffer: &mut [u8]) -> Filled
+fn next_piece<R: Read>(source: &mut Source<R>, buffer: &mut [u8]) -> Filled
     requires { length buffer.old ≡ layout.frame_bytes }
-    ensures { (length buffer.new ≡ layout.frame_bytes) × (result.end ≤ layout.frame_bytes)
+    ensures piece { (length buffer.new ≡ layout.frame_bytes) × (result.end ≤ layout.frame_bytes)
         × (result.end ≤ wanted (take result.end buffer.new)) × (result.failed ≡ negative result.answer)
         × (result.end < wanted (take result.end buffer.new) → NoMore result.answer) }
+    ensures kept { result.failed ≡ true → IsSome source.new.error }
 {
     let first = wanted(buffer, 0);
-    let head = fill(fd, buffer, 0, first);
+    let head = fill(source, buffer, 0, first);
     if head.failed {
         return head;
     }
@@ -81,7 +108,7 @@ fn next_piece(fd: i32, buffer: &mut [u8]) -> Filled
     if all <= first {
         return head;
     }
-    fill(fd, buffer, first, all)
+    fill(source, buffer, first, all)
 }
 
 // A step over a piece, which is of bytes.
@@ -127,16 +154,17 @@ fn broken_off(run: bench::Run, answer: isize) -> Came
 // comes to; that they are the input's is what `fill` and `next_piece` do and no contract can say. A read failed exactly if the answer is below 0, and a run
 // that nothing stopped came to the end of the input, where `read` answers 0. That the answer is the last of `read`'s, and that a place moves by as much as
 // came, is read off `fill`.
-fn follow(fd: i32) -> Came
-    ensures { ((s : List ℕ) × AllBytes s × (result.run ≡ followed s result.failed))
+fn follow<R: Read>(source: &mut Source<R>) -> Came
+    ensures came { ((s : List ℕ) × AllBytes s × (result.run ≡ followed s result.failed))
         × (result.failed ≡ negative result.answer) × (is_stopped result.run.phase ≡ false → result.answer ≡ pos 0) }
+    ensures kept { result.failed ≡ true → IsSome source.new.error }
 {
     let mut buffer = [0u8; capture::FRAME_BYTES];
     let mut run = bench::begun();
     let mut answer: isize = 1;
     let mut going = true;
     while going {
-        let piece = next_piece(fd, &mut buffer);
+        let piece = next_piece(source, &mut buffer);
         answer = piece.answer;
         if piece.failed {
             return broken_off(run, answer);
@@ -159,19 +187,34 @@ fn render(run: bench::Run, out: &mut [u8]) -> usize
     report::report(run, out)
 }
 
-fn print(run: bench::Run) -> bool {
+fn print(rt: &impl Print, run: bench::Run) -> io::Result<()> {
     let mut out = [0u8; report::LONGEST];
     let n = render(run, &mut out);
-    io::write_all(libc::STDOUT_FILENO, &out[0..n])
+    rt.write_all(&out[0..n])
 }
 
-fn main() {
-    let came = follow(libc::STDIN_FILENO);
+// Tells on standard error what failed and why, in the system's words: without the number that an `io::Error` prints behind them.
+fn tell(rt: &impl Eprint, what: &str, error: io::Error) {
+    let text = InlineText::<128>::of(error);
+    let why = text.as_str();
+    let words = match why.split_once(" (os error ") {
+        Some((before, _)) => before,
+        None => why,
+    };
+    let _ = eprintln!(rt; "examine: {what}: {words}");
+}
+
+fn main(rt: HostRuntime) {
+    let mut source = Source {
+        reader: rt.stdin(),
+        error: None,
+    };
+    let came = follow(&mut source);
     if came.failed {
-        os::fail(b"examine: the input cannot be read");
+        tell(&rt, "the input cannot be read", source.error.unwrap());
     }
     let run = came.run;
-    if !print(run) {
-        os::fail(b"examine: the report cannot be written");
+    if let Err(error) = print(&rt, run) {
+        tell(&rt, "the report cannot be written", error);
     }
 }

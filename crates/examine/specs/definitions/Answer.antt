@@ -1,6 +1,6 @@
 -- What C's `read` answers: how many bytes came, 0 at the end of the input, a number below 0 where it failed.
 -- Assumes nothing.
-use Rattle.std.specs.Prelude.{◌≡◌, Bool, true, false, ℤ, pos, negsuc}
+use Rattle.std.specs.Prelude.{◌≡◌, Bool, true, false, ℕ, ℤ, pos, negsuc}
 
 -- the answer is below 0: the read failed
 abbrev pub negative : ℤ → Bool
@@ -11,3 +11,8 @@ negative (negsuc n) = true
 abbrev pub NoMore : ℤ → Type 0
 NoMore (pos n) = n ≡ 0
 NoMore (negsuc n) = Unit
+
+-- how many bytes an answer counts: none where the read failed
+abbrev pub counted : ℤ → ℕ
+counted (pos n) = n
+counted (negsuc n) = 0
