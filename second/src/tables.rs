@@ -32,13 +32,19 @@ struct Pair {
 struct Lists {
     file: &'static str,
     comment: &'static str,
+    imports: &'static str,
     declared: &'static str,
     of_list: Option<&'static str>,
 }
 
+/// What lists are made of: in proofs from the library of lists itself, in definitions from the prelude.
+const FOR_PROOFS: &str = "use mathlib.Core.List.{List, [], ◌∷◌}\nuse Prim.Native.Nat.{ℕ}\n";
+const FOR_DEFINITIONS: &str = "use Rattle.std.specs.Prelude.{List, [], ◌∷◌, ℕ}\n";
+
 const OF_PROOFS: Lists = Lists {
     file: "proofs/Lists.antt",
     comment: "The tables of src/tables.rt as lists. Written by the program `tables` of second/.",
+    imports: FOR_PROOFS,
     declared: "abbrev pub",
     of_list: None,
 };
@@ -55,7 +61,7 @@ static PAIRS: [Pair; 4] = [
             element: "u16",
             length: 256,
             entry: |b| parity(b as u128).into(),
-            list: "byteRemainders",
+            list: "byte_remainders",
             line: 16,
         }],
     },
@@ -141,7 +147,7 @@ static PAIRS: [Pair; 4] = [
                 element: "u64",
                 length: 2 * (ROUND + 1),
                 entry: |at| <[u64; 2]>::from(split(bit_at(at / 2)))[at % 2],
-                list: "singleBits",
+                list: "single_bits",
                 line: 4,
             },
         ],
@@ -170,6 +176,7 @@ static PAIRS: [Pair; 4] = [
             file: "specs/definitions/Table5.antt",
             comment: "The pilots as 000 prints them (7.1, table 5), a byte each: \
                 XI, XQ, YI, YQ, two bits each, XI on top.",
+            imports: FOR_DEFINITIONS,
             declared: "unfoldable pub",
             of_list: Some("the 96 pilot bytes, copied from table 5, which decides"),
         },
@@ -204,17 +211,34 @@ fn as_code(pair: &Pair) -> String {
         text += "\n";
         text += &commented("//", table.comment);
         text += &format!("pub const {name}: [{element}; {length}] = [\n");
-        for entry in table.entries() {
-            text += &format!("    {entry},\n");
-        }
+        text += &laid_out(&table.entries());
         text += "];\n";
     }
     text
 }
 
+/// The widest line of code, and the longest entry of which a line has more than one, as `rt fmt` lays out a table.
+const LINE_WIDTH: usize = 99;
+const SHORT_ENTRY: usize = 10;
+
+/// The lines between a table's brackets: filled where every entry is short, else an entry each.
+fn laid_out(entries: &[String]) -> String {
+    let are_short = entries.iter().all(|entry| entry.len() <= SHORT_ENTRY);
+    let mut lines: Vec<String> = Vec::new();
+    for entry in entries {
+        match lines.last_mut() {
+            Some(line) if are_short && line.len() + entry.len() + 2 <= LINE_WIDTH => {
+                *line += &format!(" {entry},");
+            }
+            _ => lines.push(format!("    {entry},")),
+        }
+    }
+    lines.iter().map(|line| format!("{line}\n")).collect()
+}
+
 fn as_lists(pair: &Pair) -> String {
     let lists = &pair.lists;
-    let mut text = opened(lists.comment);
+    let mut text = opened(lists.comment, lists.imports);
     for table in pair.tables {
         let (name, declared) = (table.list, lists.declared);
         let own_name = format!("`{}`", table.name);
@@ -231,12 +255,8 @@ fn as_lists(pair: &Pair) -> String {
 }
 
 /// How a file of lists begins.
-fn opened(comment: &str) -> String {
-    let mut text = commented("--", comment);
-    text += "-- Assumes nothing.\n";
-    text += "use mathlib.Core.List.{List, [], _∷_}\n";
-    text += "use Prim.Native.Nat.{ℕ}\n";
-    text
+fn opened(comment: &str, imports: &str) -> String {
+    commented("--", comment) + "-- Assumes nothing.\n" + imports
 }
 
 fn commented(mark: &str, comment: &str) -> String {
@@ -258,14 +278,15 @@ fn traffic_figures() -> String {
     let mut text = opened(
         "Written by the program `tables` of second/: the first 64 bits of test traffic, and the \
         state after 31, 1,000 and 42,240 bits, each found bit by bit.",
+        FOR_DEFINITIONS,
     );
     text += "\n-- the first 64 bits as a number, the first on top\n";
-    text += "abbrev pub firstBits : ℕ\n";
-    text += &format!("firstBits = 0x{:016X}\n", first_bits());
+    text += "abbrev pub first_bits : ℕ\n";
+    text += &format!("first_bits = 0x{:016X}\n", first_bits());
     text += "\n-- a number of bits, and the state after them\n";
     text += "pub record StateFigure : Type 0 where\n  pub bits : ℕ\n  pub state : ℕ\n";
     text += "\n-- after 31, 1,000 and 42,240 bits\n";
-    text += "unfoldable pub stateFigures : List StateFigure\nstateFigures =\n    ";
+    text += "unfoldable pub state_figures : List StateFigure\nstate_figures =\n    ";
     for bits in [31, 1_000, 42_240] {
         let state = state_by_steps(bits);
         text += &format!("record {{ bits = {bits}; state = 0x{state:08X} }}\n    ∷ ");
@@ -444,8 +465,8 @@ mod tests {
         assert_eq!(frame(0, &mut lanes), 0);
         let symbols = (0..7).map(|p| u16::from_be_bytes([lanes[165 * p], lanes[165 * p + 1]]) >> 6);
         let bits = symbols.fold(0, |bits, symbol| bits << 10 | u128::from(symbol));
-        assert_eq!(after("firstBits = "), [(bits >> 6) as u64]);
-        let (bits, states) = (after("bits = "), after("state = "));
+        assert_eq!(after("first_bits = "), [(bits >> 6) as u64]);
+        let (bits, states) = (after("{ bits = "), after("state = "));
         assert_eq!(bits, [31, 1_000, 42_240]);
         for (bits, state) in bits.into_iter().zip(states) {
             assert_eq!(u64::from(state_after(bits)), state);
