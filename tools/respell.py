@@ -4,9 +4,9 @@ where the old one is a right name elsewhere, a tab and the files in which it tur
 
 usage: respell.py [FOLDER]      FOLDER is the repository; run it once, after the toolchain's port.py, before any edit by hand
 
-Whole words turn: in .antt and .rt files of crates/ everywhere but in comments, and there inside code spans; in must-fail edits on their lines 'old:' and 'new:';
-in README.md, CONTRIBUTING.md and docs/ inside code spans. Functions of src/ and what C sees have no such names. A lemma that would have its function's name
-ends in _lem; right behind a dot stands the function, or a field.
+Whole words turn: in .antt and .rt files of crates/ everywhere but in comments, and there inside code spans; in must-fail edits on their lines
+'old:' and 'new:'; in README.md, CONTRIBUTING.md and docs/ inside code spans. Functions of src/ and what C sees have no such names. A lemma that would have
+its function's name ends in _lem; right behind a dot stands the function, or a field.
 """
 
 import os

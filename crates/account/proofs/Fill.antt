@@ -1,6 +1,7 @@
 -- What is due to a frame, by its number: `DueByNumber` and `Brings`; and `FewerThanTwo`.
 -- Assumes nothing.
-use Rattle.std.proofs.Common.{◌≡◌, ℕ, zero, suc, ◌+◌, ◌%◌, ◌^◌, ◌<◌, ◌≤◌, Bool, true, false, cond, ◌&&◌, eqb, leb, ◌≢◌, List, get_or, sym, refl, ◌∙◌, subst, arith, eq-eqb, ne_eqb, le-leb, leb-true}
+use Rattle.std.proofs.Common.{◌≡◌, ℕ, zero, suc, ◌+◌, ◌%◌, ◌^◌, ◌<◌, ◌≤◌, Bool, true, false, cond, ◌&&◌}
+use Rattle.std.proofs.Common.{eqb, leb, ◌≢◌, List, get_or, sym, refl, ◌∙◌, subst, arith, eq-eqb, ne_eqb, le-leb, leb-true}
 use borrow.Author.Tests.{lt-leb}
 use Rattle.bits.specs.definitions.Bits.{count}
 use Rattle.bits.proofs.Count.{count_cong, count_le, count_all}

@@ -18,4 +18,7 @@ byte_test = tt
 
 pub is_byte_remainders : IsByteRemainders byte_remainders
 unfolding byte_ok
-is_byte_remainders = record { entry = λ b h. eqb→eq (get_or byte_remainders b 0) (remainder 24 (b * 2 ^ 16)) (table_rule byte_ok byte_remainders byte_test b h) }
+is_byte_remainders = record {
+  entry = λ b h. eqb→eq (get_or byte_remainders b 0) (remainder 24 (b * 2 ^ 16))
+      (table_rule byte_ok byte_remainders byte_test b h);
+}

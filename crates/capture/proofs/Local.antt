@@ -103,7 +103,8 @@ module _ (s t : List ℕ) (i : ℕ) where
     order_same c n (no m) = sym (an_order (s ++ t) i here there (same ∙ n)) ∙ order_more (omega arith) ∙ an_order s i h (omega arith) n
 
     module _ (n : big_endian_at s i ≡ layout.order_length → ⊥) where
-      frame_same : read_at s i ≢ Refused 6 → big_endian_at s i ≡ layout.frame_length → Dec (length s - i < layout.frame_bytes) → read_at (s ++ t) i ≡ read_at s i
+      frame_same : read_at s i ≢ Refused 6 → big_endian_at s i ≡ layout.frame_length → Dec (length s - i < layout.frame_bytes)
+          → read_at (s ++ t) i ≡ read_at s i
       frame_same c f (yes m) =
           absurd (c (sym (frame_refused s i 6 (refused_short s i _ _ m) (λ (z : ◌≡◌ {A = ℕ} 6 0). omega arith) ∙ a_frame s i h (omega arith) n f)))
       frame_same c f (no m) =

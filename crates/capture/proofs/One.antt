@@ -62,7 +62,8 @@ one_whole s read h = go (more (read_at s 0) (length s)) refl
     all (Order start asked allowed next) k m S = ends next m (let i = S.whole.inside in let n = S.next_is in (omega arith, omega arith))
     all (Frame number from next) k m S = ends next m (let i = S.whole.inside in let n = S.next_is in (omega arith, omega arith))
 
-    go : (b : Bool) → more (read_at s 0) (length s) ≡ b → cond b (Refused more_than_one) (read_at s 0) ≡ read → (read_at s 0 ≡ read) × (length s ≡ next_of read 0)
+    go : (b : Bool) → more (read_at s 0) (length s) ≡ b → cond b (Refused more_than_one) (read_at s 0) ≡ read
+        → (read_at s 0 ≡ read) × (length s ≡ next_of read 0)
     go true m e = absurd (false≢true (sym h ∙ ap is_refused (sym e)))
     go false m e = (e, all read h (ap (λ (r : Read). more r (length s)) (sym e) ∙ m) (subst (Stands s 0) e (stands s 0)))
 
@@ -93,7 +94,8 @@ one_is_more s = go (more (read_at s 0) (length s))
 pub one_piece : (s : List ℕ) → read_one (take (wanted s) s) ≡ read_at s 0
 one_piece s =
     one_alone (take (wanted s) s)
-    (subst (λ (r : Read). (next_of r 0 ≡ 0) ⊎ (length (take (wanted s) s) ≤ next_of r 0)) (sym (wanted_reads s).0) (ends (read_at s 0) refl)) ∙ (wanted_reads s).0
+    (subst (λ (r : Read). (next_of r 0 ≡ 0) ⊎ (length (take (wanted s) s) ≤ next_of r 0)) (sym (wanted_reads s).0) (ends (read_at s 0) refl))
+    ∙ (wanted_reads s).0
   where
     short : length (take (wanted s) s) ≤ wanted s
     short = let l = length-take (wanted s) s in omega arith

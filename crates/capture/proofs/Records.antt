@@ -21,7 +21,8 @@ pub order_reads : OrderReads
 unfolding order_record big_endian tabulate big_endian_at value
 order_reads start asked allowed rest hs ha hw =
     sym
-    (order_read r 0 start asked allowed (not_refused_lem r 0 _ _ (omega arith) refl refl) (sym (value_digits 256 4 start hs)) (sym (value_digits 256 4 asked ha))
+    (order_read r 0 start asked allowed (not_refused_lem r 0 _ _ (omega arith) refl refl) (sym (value_digits 256 4 start hs))
+    (sym (value_digits 256 4 asked ha))
     (sym (value_digits 256 4 allowed hw))
     ∙ an_order r 0 (omega arith) (omega arith) refl)
   where

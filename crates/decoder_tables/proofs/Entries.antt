@@ -110,7 +110,8 @@ values_are s h =
 values_xor : (s t : ℕ) → s < 65536 → t < 65536 → values_of field (bit_xor s t) ≡ bit_xor (values_of field s) (values_of field t)
 values_xor s t hs ht =
     values_are (bit_xor s t) (xor_lt 16 s t hs ht)
-    ∙ ap₂ bit_xor (ap (sum_at 8 low) (xor_mod s t 8) ∙ sum_xor 8 low (s % 256) (t % 256)) (ap (sum_at 8 high) (xor_shr s t 8) ∙ sum_xor 8 high (s / 256) (t / 256))
+    ∙ ap₂ bit_xor (ap (sum_at 8 low) (xor_mod s t 8) ∙ sum_xor 8 low (s % 256) (t % 256))
+    (ap (sum_at 8 high) (xor_shr s t 8) ∙ sum_xor 8 high (s / 256) (t / 256))
     ∙ xor_four (sum_at 8 low (s % 256)) (sum_at 8 low (t % 256)) (sum_at 8 high (s / 256)) (sum_at 8 high (t / 256))
     ∙ sym (ap₂ bit_xor (values_are s hs) (values_are t ht))
 

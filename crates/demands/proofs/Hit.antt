@@ -93,7 +93,8 @@ hit_locks f e pilot = ap (λ (n : ℕ). ltb n lock_limit) (count_cong 96 _ _ (λ
     there i h = lt-ltb (64 * i) 6144 (omega arith)
 
     at : (i : ℕ) → i < 96 → (ltb (0 + 64 * i) (length (hit f e)) && eqb (get_or (hit f e) (0 + 64 * i) 0) (get_or pilots i 0)) ≡ eqb (get_or e (64 * i) 0) 0
-    at i h = rw (zero-add (64 * i), hit_length f e, there i h, hit_at f e (64 * i) (omega arith), pilot i h) (xor_test (get_or pilots i 0) (get_or e (64 * i) 0))
+    at i h = rw (zero-add (64 * i), hit_length f e, there i h, hit_at f e (64 * i) (omega arith), pilot i h)
+        (xor_test (get_or pilots i 0) (get_or e (64 * i) 0))
 
 -- ---- what is made of a hit frame of code words
 

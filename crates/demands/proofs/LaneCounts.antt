@@ -47,7 +47,8 @@ lanes_inject f n g m lane number into one =
     let r = into (i % 32) (i / 32) (omega arith) (omega arith) ti in
     let q = into (j % 32) (j / 32) (omega arith) (omega arith) tj in
     let s = one (i % 32) (j % 32) (i / 32) (j / 32) (omega arith) (omega arith) (omega arith) (omega arith) ti tj
-    (sym (lane_of_lem _ _ r.0) ∙ ap (λ (v : ℕ). v % 32) e ∙ lane_of_lem _ _ q.0) (sym (number_of_lem _ _ r.0) ∙ ap (λ (v : ℕ). v / 32) e ∙ number_of_lem _ _ q.0) in
+    (sym (lane_of_lem _ _ r.0) ∙ ap (λ (v : ℕ). v % 32) e ∙ lane_of_lem _ _ q.0)
+    (sym (number_of_lem _ _ r.0) ∙ ap (λ (v : ℕ). v / 32) e ∙ number_of_lem _ _ q.0) in
     same s.0 s.1)
   where
     to : ℕ → ℕ

@@ -41,7 +41,7 @@ unfolding stream_bit
 bit frames p i = bit_at_lt (frames (i / 1320)) (1320 * p + i % 1320)
 
 pub one_for_all : OneForAll
-one_for_all ex n flips lanes room outs flag_buffers a lanes' room' outs' flagBuffers' b lengths = (
+one_for_all ex n flips lanes room outs flag_buffers a lanes' room' outs' flag_buffers' b lengths = (
   numbers,
   λ f h e. flags_of_flips a f h e ∙ sym (flags_of_flips b f h (sym (numbers f h) ∙ e)),
   λ accepted p i hp hi. (places a b accepted (both accepted) p i hp hi, places b a (both accepted) accepted p i hp hi),
@@ -50,13 +50,13 @@ one_for_all ex n flips lanes room outs flag_buffers a lanes' room' outs' flagBuf
     numbers : (f : ℕ) → f < n → a.numbers f ≡ b.numbers f
     numbers f h =
         refused_exactly ex n flips lanes room outs flag_buffers a f h ∙ rw ((lengths f h).0, (lengths f h).1) refl
-        ∙ sym (refused_exactly ex n flips lanes' room' outs' flagBuffers' b f h)
+        ∙ sym (refused_exactly ex n flips lanes' room' outs' flag_buffers' b f h)
 
     both : Accepted a → Accepted b
     both accepted f h = sym (numbers f h) ∙ accepted f h
 
-    places : {lanes room outs flag_buffers lanes' room' outs' flagBuffers' : ℕ → List ℕ} (a : Trial ex n flips lanes room outs flag_buffers)
-        (b : Trial ex n flips lanes' room' outs' flagBuffers') → Accepted a → Accepted b → (p i : ℕ) → p < 32 → i < 1320 * n → Wrong a p i → Wrong b p i
+    places : {lanes room outs flag_buffers lanes' room' outs' flag_buffers' : ℕ → List ℕ} (a : Trial ex n flips lanes room outs flag_buffers)
+        (b : Trial ex n flips lanes' room' outs' flag_buffers') → Accepted a → Accepted b → (p i : ℕ) → p < 32 → i < 1320 * n → Wrong a p i → Wrong b p i
     places a b accepted accepted' p i hp hi =
         same_place (stream_bit a.back p i) (stream_bit a.clean_back p i) (stream_bit b.back p i) (stream_bit b.clean_back p i)
         (deinterleaved ex (stream_bit (λ f. brought_lanes (flips f))) p i) (bit a.clean_back p i) (bit b.clean_back p i)

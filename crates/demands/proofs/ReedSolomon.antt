@@ -163,7 +163,8 @@ pub differ_none : (x : ℕ) → differ x 0 ≡ x
 differ_none zero = refl
 differ_none (suc x) = refl
 
-module _ {ex : Places} {n : ℕ} {flips lanes room outs flag_buffers : ℕ → List ℕ} (t : Trial ex n flips lanes room outs flag_buffers) (accepted : Accepted t) where
+module _ {ex : Places} {n : ℕ} {flips lanes room outs flag_buffers : ℕ → List ℕ} (t : Trial ex n flips lanes room outs flag_buffers)
+    (accepted : Accepted t) where
   -- a symbol carried in a word that at most two flips hit comes back right
   right_bit : (p s k : ℕ) → p < 32 → s + 144 < 132 * n → k < 10 → flips_in flips (across ex p s) (slot s / 11) ≤ 2
       → stream_bit t.back p (10 * (s + 144) + k) ≡ stream_bit t.clean_back p (10 * (s + 144) + k)

@@ -44,7 +44,7 @@ by_entry Going r got f g e = ap (after_entry r) e
 by_entry Stopped r got f g e = refl
 
 module _ (ex : Places) (n : ℕ) (flips lanes room outs flag_buffers : ℕ → List ℕ) (a : Trial ex n flips lanes room outs flag_buffers)
-    (lanes' room' outs' flagBuffers' : ℕ → List ℕ) (b : Trial ex n flips lanes' room' outs' flagBuffers') (start asked allowed : ℕ) (got : ℕ → ℕ) where
+    (lanes' room' outs' flag_buffers' : ℕ → List ℕ) (b : Trial ex n flips lanes' room' outs' flag_buffers') (start asked allowed : ℕ) (got : ℕ → ℕ) where
   abbrev run_of_lem : (ℕ → List ℕ) → ℕ → Run
   run_of_lem frames k = run_after start asked allowed got (λ f. hit (frames f) (flips f)) k
 
@@ -67,10 +67,10 @@ captured_run {n = n} {flips = flips} t start asked allowed got rest small number
     ∙ sym (onward_frames start asked allowed got frames small n (λ k h. (numbers k h, length_tabulate 6144 _)) rest)
 
 pub reports_alike : ReportsAlike
-reports_alike ex n flips lanes room outs flag_buffers a lanes' room' outs' flagBuffers' b start asked allowed got rest small numbers =
+reports_alike ex n flips lanes room outs flag_buffers a lanes' room' outs' flag_buffers' b start asked allowed got rest small numbers =
     let e =
     captured_run a start asked allowed got rest small numbers
     ∙ ap (λ (r : Run). through r (pieces rest))
-    (runs_alike ex n flips lanes room outs flag_buffers a lanes' room' outs' flagBuffers' b start asked allowed got n (omega arith))
+    (runs_alike ex n flips lanes room outs flag_buffers a lanes' room' outs' flag_buffers' b start asked allowed got n (omega arith))
     ∙ sym (captured_run b start asked allowed got rest small numbers) in
     (e, ap text e)

@@ -59,7 +59,8 @@ module _ (ex : Places) (n : ℕ) (lanes room : ℕ → List ℕ) (sent_numbers :
       (code_passed c (sent_words (i / 1320) (omega arith) (32 * (i % 1320 / 110) + p) (omega arith))
       (arrived_lt (frames (i / 1320)) (32 * (i % 1320 / 110) + p)))
       ∙ ap₂ (λ (f k : ℕ). bit_of 126 (arrived (frames f) k) (i % 110)) frame word
-      ∙ (block_rule ex n lanes room sent_numbers frames sent_stores S).2 p w (i % 110) hp (omega arith) (omega arith) ∙ ap (interleaved ex (stream_bit lanes) p) bit
+      ∙ (block_rule ex n lanes room sent_numbers frames sent_stores S).2 p w (i % 110) hp (omega arith) (omega arith)
+      ∙ ap (interleaved ex (stream_bit lanes) p) bit
 
   module _ (outs flag_buffers : ℕ → List ℕ) (numbers : ℕ → ℕ) (stores back flag_bytes : ℕ → List ℕ)
       (R : Received ex n frames outs flag_buffers numbers stores back flag_bytes) where
@@ -91,7 +92,8 @@ module _ (ex : Places) (n : ℕ) (lanes room : ℕ → List ℕ) (sent_numbers :
           let k : i < 384 = subst (λ (m : ℕ). i < m) (flags_length (frames f)) l in
           let c = arrived (frames f) i in
           let none : distance c c ≡ 0 = distance_weight c c ∙ ap (weight 126) (xor_self c) ∙ weight_zero 126 in
-          flag_at_lem (frames f) i k ∙ (mends_two c c (sent_words f h i k) (arrived_lt (frames f) i) (omega arith)).1 ∙ none ∙ sym (get_or-replicate 384 i 0 0 k))
+          flag_at_lem (frames f) i k ∙ (mends_two c c (sent_words f h i k) (arrived_lt (frames f) i) (omega arith)).1 ∙ none
+          ∙ sym (get_or-replicate 384 i 0 0 k))
 
 pub return : Return
 return ex n lanes sent_numbers numbers back flag_bytes U = (

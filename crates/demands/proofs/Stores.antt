@@ -106,9 +106,9 @@ last_kept ex n p i hp hi late =
 
     -- by the row that the block is in, and by how long ago it came
     block : Dec (b % 3 ≡ 0) → Dec (b % 3 ≡ 1) → Dec (b < 18)
-        → (ofSender : Bool) × (a : ℕ) × (a < 18)
+        → (of_sender : Bool) × (a : ℕ) × (a < 18)
         × ((lanes : ℕ → List ℕ) (sent_numbers numbers : ℕ → ℕ) (back flag_bytes : ℕ → List ℕ) (u : Undamaged ex n lanes sent_numbers numbers back flag_bytes)
-        → stored (cond ofSender (u.sent_stores n) (u.stores n)) q (40 * a + i % 40) ≡ before_end ex n lanes q b (i % 40))
+        → stored (cond of_sender (u.sent_stores n) (u.stores n)) q (40 * a + i % 40) ≡ before_end ex n lanes q b (i % 40))
     block (yes z) _ _ =
         let j = b / 3 - 1 in
         let lt : j < 12 = omega (arith, few) in

@@ -114,13 +114,13 @@ traffic_hit n lent lanes G ex flips room outs flag_buffers t accepted f h = coun
 
 pub traffic_speaks : TrafficSpeaks
 unfolding wrong_in_lane
-traffic_speaks n lent lanes G ex flips room outs flag_buffers t accepted lanes' room' outs' flagBuffers' b lengths f h c r c' C size =
+traffic_speaks n lent lanes G ex flips room outs flag_buffers t accepted lanes' room' outs' flag_buffers' b lengths f h c r c' C size =
     (traffic_hit n lent lanes G ex flips room outs flag_buffers t accepted f h c r c' C size).1
     ∙ tabulate_cong 32 _ _ (λ p hp. count_cong 1320 _ _ (λ i hi. ap (λ (x : Bool). compared f i && x) (alike p (1320 * f + i) hp (omega arith))))
   where
     alike : (p i : ℕ) → p < 32 → i < 1320 * n → is_wrong t p i ≡ is_wrong b p i
     alike p i hp hi =
-        let same = (one_for_all ex n flips lanes room outs flag_buffers t lanes' room' outs' flagBuffers' b lengths).2 accepted p i hp hi in
+        let same = (one_for_all ex n flips lanes room outs flag_buffers t lanes' room' outs' flag_buffers' b lengths).2 accepted p i hp hi in
         let ours = (wrong_test ex n flips lanes room outs flag_buffers t).0 p i in
-        let theirs = (wrong_test ex n flips lanes' room' outs' flagBuffers' b).0 p i in
+        let theirs = (wrong_test ex n flips lanes' room' outs' flag_buffers' b).0 p i in
         together (is_wrong t p i) (is_wrong b p i) (λ e. theirs.1 (same.0 (ours.0 e))) (λ e. ours.1 (same.1 (theirs.0 e)))

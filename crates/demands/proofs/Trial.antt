@@ -105,7 +105,8 @@ module _ (ex : Places) (n : ℕ) (flips lanes room outs flag_buffers : ℕ → L
     answers f = receive_number (frames f) (receiver_stores f) (outs f) (flag_buffers f)
 
     receives : Received ex n frames outs flag_buffers answers receiver_stores
-        (λ f. after (answers f) (received_lanes ex (frames f) (receiver_stores f)) (outs f)) (λ f. after (answers f) (received_flags (frames f)) (flag_buffers f))
+        (λ f. after (answers f) (received_lanes ex (frames f) (receiver_stores f)) (outs f))
+        (λ f. after (answers f) (received_flags (frames f)) (flag_buffers f))
     unfolding receiver_stores answers
     receives = record { fresh = refl; call = λ f h. record { number = refl; store = refl; output = refl; flags = refl } }
 

@@ -242,7 +242,8 @@ parted_at_lem n s (suc (suc v)) i j h l e = absurd (omega arith)
 -- both halves are lent, and parted
 pub halves_are : (s out : List ℕ) {a b : List ℕ} → length out ≡ 1024
     → a ≡ tabulate (length (take 512 (drop 0 out))) (parted_at (length (take 512 (drop 0 out))) (take 512 (drop 0 s)))
-    → b ≡ tabulate (length (take 512 (drop 512 (put_part 0 512 out a)))) (parted_at (length (take 512 (drop 512 (put_part 0 512 out a)))) (take 512 (drop 512 s)))
+    → b ≡ tabulate (length (take 512 (drop 512 (put_part 0 512 out a))))
+    (parted_at (length (take 512 (drop 512 (put_part 0 512 out a)))) (take 512 (drop 512 s)))
     → put_part 512 1024 (put_part 0 512 out a) b ≡ tabulate 1024 (halves_at s)
 unfolding halves_at
 halves_are s out l p q =

@@ -83,7 +83,8 @@ module _ (ex : Places) (n : ℕ) (frames outs flag_buffers : ℕ → List ℕ) (
 
   -- a call that is not refused is done
   pub call_done : (f : ℕ) → f < n → numbers f ≡ 0
-      → (stores (suc f) ≡ received_store (frames f) (stores f)) × (back f ≡ received_lanes ex (frames f) (stores f)) × (flag_bytes f ≡ received_flags (frames f))
+      → (stores (suc f) ≡ received_store (frames f) (stores f)) × (back f ≡ received_lanes ex (frames f) (stores f))
+      × (flag_bytes f ≡ received_flags (frames f))
   call_done f h e = done ex (frames f) (stores f) (outs f) (flag_buffers f) (numbers f) (stores (suc f)) (back f) (flag_bytes f) e (R.call f h)
 
   -- if no frame is refused, what comes back is what the frames bring, deinterleaved

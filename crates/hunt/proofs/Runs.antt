@@ -158,7 +158,8 @@ frame_kept n pieces numbers hunts keeps R o e = go (searched n pieces numbers hu
     go (inr (p, D)) =
         let q : p ≡ o = one_start (joined (not_refused pieces numbers) n) p o D.starts S in
         subst (λ (m : ℕ). ((hunts n).taken ≡ m + 6144) × (length (keeps n) ≡ 6144)
-        × ((j : ℕ) → j < 6144 → get_or (keeps n) (kept_place (m + j)) 0 ≡ get_or (joined (not_refused pieces numbers) n) (m + j) 0)) q (D.upto, D.whole, D.frame)
+        × ((j : ℕ) → j < 6144 → get_or (keeps n) (kept_place (m + j)) 0 ≡ get_or (joined (not_refused pieces numbers) n) (m + j) 0)) q
+        (D.upto, D.whole, D.frame)
 
 -- the search after i of the pieces
 unfoldable fed_search : (ℕ → List ℕ) → List ℕ → ℕ → Search

@@ -48,7 +48,8 @@ module _ (a : List ℕ) (b hi lo : ℕ) (l : lo < 2 ^ 64) (e : field_at a b 110 
 
 -- the last m bits of a word's information and the first of the next
 pub word_across : (a : List ℕ) (b hi lo hi' lo' : ℕ) → lo < 2 ^ 64 → lo' < 2 ^ 64 → field_at a b 110 ≡ word_of hi lo / 2 ^ 16
-    → field_at a (b + 110) 110 ≡ word_of hi' lo' / 2 ^ 16 → (m c : ℕ) {r : ℕ} → 1 < m → m < 49 → r ≡ across_of lo hi' m → b + (110 - m) ≡ c → r ≡ field_at a c 64
+    → field_at a (b + 110) 110 ≡ word_of hi' lo' / 2 ^ 16 → (m c : ℕ) {r : ℕ} → 1 < m → m < 49 → r ≡ across_of lo hi' m → b + (110 - m) ≡ c
+    → r ≡ field_at a c 64
 word_across a b hi lo hi' lo' l l' e e' m c h k er ec =
     let n = 64 - m in
     let y = hi' * 2 ^ 2 % 2 ^ 64 in

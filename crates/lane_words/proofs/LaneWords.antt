@@ -168,7 +168,8 @@ module _ (s : List ℕ) where
       ∙ number_bits 110 (w / 2 ^ 16) (shr_lt 110 16 l)
 
   -- by its two numbers
-  pub lanes_word : (j : ℕ) {hi lo : ℕ} → j < 384 → lo < 2 ^ 64 → hi ≡ get_or s (2 * (32 * (j % 12) + j / 12)) 0 → lo ≡ get_or s (2 * (32 * (j % 12) + j / 12) + 1) 0
+  pub lanes_word : (j : ℕ) {hi lo : ℕ} → j < 384 → lo < 2 ^ 64 → hi ≡ get_or s (2 * (32 * (j % 12) + j / 12)) 0
+      → lo ≡ get_or s (2 * (32 * (j % 12) + j / 12) + 1) 0
       → field_at (word_lanes s) (110 * j) 110 ≡ word_of hi lo / 2 ^ 16
   unfolding word_at
   lanes_word j {hi} {lo} h l p q =

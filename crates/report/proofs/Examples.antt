@@ -16,8 +16,8 @@ use Rattle.bench.proofs.Walk.{walked_one, walked_end, walked_stays}
 
 -- 01's lone order
 pub lone_order_lem : LoneOrder
-unfolding examined walked read_at big_endian_at value order_at refused_or refusal_at came_as order_came text figure_lines verdict_line verdict_name digits tabulate
-    verdict_of goes_on verdict measured
+unfolding examined walked read_at big_endian_at value order_at refused_or refusal_at came_as order_came text figure_lines verdict_line verdict_name digits
+    tabulate verdict_of goes_on verdict measured
 lone_order_lem = refl
 
 -- no order first: the run is as it began, or stopped at once

@@ -205,9 +205,11 @@ row_symbol s g k e hg hk he =
     ∙ λ x. dibit 0 (64 * g + k) (omega arith) (omega arith) x * 64 + dibit 1 (64 * g + k + 16) (omega arith) (omega arith) x * 16
     + dibit 2 (64 * g + k + 32) (omega arith) (omega arith) x * 4 + dibit 3 (64 * g + k + 48) (omega arith) (omega arith) x)
   where
-    dibit : (r n : ℕ) → r < 4 → n ≡ 16 * (4 * g + r) + k → dibit_in e (get_or (word_bytes 384 s) n 0) ≡ word_at s (4 * g + r) / 2 ^ (2 * (64 - (4 * k + e + 1))) % 4
+    dibit : (r n : ℕ) → r < 4 → n ≡ 16 * (4 * g + r) + k
+        → dibit_in e (get_or (word_bytes 384 s) n 0) ≡ word_at s (4 * g + r) / 2 ^ (2 * (64 - (4 * k + e + 1))) % 4
     dibit r n h o =
-        ap (dibit_in e) (ap (λ (m : ℕ). get_or (word_bytes 384 s) m 0) o ∙ word_byte s (4 * g + r) k (omega arith) hk) ∙ byte_dibit (word_at s (4 * g + r)) k e hk he
+        ap (dibit_in e) (ap (λ (m : ℕ). get_or (word_bytes 384 s) m 0) o ∙ word_byte s (4 * g + r) k (omega arith) hk)
+        ∙ byte_dibit (word_at s (4 * g + r)) k e hk he
 
 -- ---- the frame of words that were shuffled
 
@@ -422,8 +424,10 @@ unfolding quarter_at mapped
 quarter_lt b e j = value_lt 2 8 _ (λ k _. bit_lt 8 _ _)
 
 -- four quarters, two and two in a number, are one symbol of each in turn
-pub quarters_frame : (b s₀ s₁ s₂ s₃ x y : List ℕ) → s₀ ≡ tabulate 1536 (quarter_at b 0) → s₁ ≡ tabulate 1536 (quarter_at b 1) → s₂ ≡ tabulate 1536 (quarter_at b 2)
-    → s₃ ≡ tabulate 1536 (quarter_at b 3) → x ≡ tabulate 1536 (λ i. get_or s₀ i 0 + get_or s₁ i 0 * 256) → y ≡ tabulate 1536 (λ i. get_or s₂ i 0 + get_or s₃ i 0 * 256)
+pub quarters_frame : (b s₀ s₁ s₂ s₃ x y : List ℕ) → s₀ ≡ tabulate 1536 (quarter_at b 0) → s₁ ≡ tabulate 1536 (quarter_at b 1)
+    → s₂ ≡ tabulate 1536 (quarter_at b 2)
+    → s₃ ≡ tabulate 1536 (quarter_at b 3) → x ≡ tabulate 1536 (λ i. get_or s₀ i 0 + get_or s₁ i 0 * 256)
+    → y ≡ tabulate 1536 (λ i. get_or s₂ i 0 + get_or s₃ i 0 * 256)
     → tabulate 6144 (byte_of_two x y) ≡ tabulate 6144 (λ t. quarter_at b (t % 4) (t / 4))
 unfolding byte_of_two
 quarters_frame b s₀ s₁ s₂ s₃ x y e₀ e₁ e₂ e₃ p q = tabulate_cong 6144 _ _ (λ t h. at t (t % 4) refl h)

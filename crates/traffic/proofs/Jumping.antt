@@ -66,7 +66,8 @@ module _ (s : ℕ) (h : s < 2 ^ 31) where
   terms_step : (c : ℕ) → c < 2 ^ 31 → sum_at 31 (state_from s) (terms_of (next_state (terms_of c))) ≡ next_state (sum_at 31 (state_from s) c)
   unfolding step_ok next_state entering state_from
   terms_step =
-      linear_agree 31 (λ c. sum_at 31 (state_from s) (terms_of (next_state (terms_of c)))) (λ c. next_state (sum_at 31 (state_from s) c)) (sum_none 31 (state_from s))
+      linear_agree 31 (λ c. sum_at 31 (state_from s) (terms_of (next_state (terms_of c)))) (λ c. next_state (sum_at 31 (state_from s) c))
+      (sum_none 31 (state_from s))
       (ap next_state (sum_none 31 (state_from s)))
       (λ x y.
       ap (sum_at 31 (state_from s)) (ap terms_of (ap next_state (terms_xor x y) ∙ next_xor (terms_of x) (terms_of y))

@@ -53,7 +53,8 @@ module _ (words : List ℕ) (fits : (k : ℕ) → get_or words k 0 < 2 ^ 64) whe
 
   -- what `row_groups` stores for group m of row s
   pub group_at : (s m : ℕ)
-      → (get_or words (5 * s + 5 * m / 8) 0 * 2 ^ 64 + get_or words (5 * s + 5 * m / 8 + 1) 0) / 2 ^ (64 - 40 * m % 64) % 2 ^ 64 ≡ window_at words (320 * s + 40 * m)
+      → (get_or words (5 * s + 5 * m / 8) 0 * 2 ^ 64 + get_or words (5 * s + 5 * m / 8 + 1) 0) / 2 ^ (64 - 40 * m % 64) % 2 ^ 64
+      ≡ window_at words (320 * s + 40 * m)
   group_at s m =
       let e : 64 * (5 * s + 5 * m / 8) + 40 * m % 64 ≡ 320 * s + 40 * m = omega arith in
       window_at_lem (5 * s + 5 * m / 8) (40 * m % 64) (omega arith) ∙ ap (window_at words) e

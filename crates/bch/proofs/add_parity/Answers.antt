@@ -28,7 +28,8 @@ loop-i-preserved c =
     let s = c.args.words.now in
     let small : get_or at.words (2 * at.i + 1) 0 < 2 ^ 64 = omega (arith, c.slice_known-in-loop-i-2-1.given (2 * at.i + 1)) in
     let h =
-    coded_halves _ _ (word_at s at.i) _ small (row_rest (sent s) at.invariant) (c.remainder_by_bytes-r.ensures ∙ c.requires.folded_words.fold at.i (omega arith)) in
+    coded_halves _ _ (word_at s at.i) _ small (row_rest (sent s) at.invariant)
+    (c.remainder_by_bytes-r.ensures ∙ c.requires.folded_words.fold at.i (omega arith)) in
     row_step (sent s) at.invariant _ _ (omega arith) h.0 h.1
 
 pub returns : goal.returns

@@ -103,7 +103,8 @@ mend_one-requires-5 c =
 
 pub mend_one-requires-6 : goal.mend_one-requires-6
 mend_one-requires-6 c =
-    let M = reached5 c.requires.rest_len.1 c.requires.rest_len.2 c.mend_one.ensures c.mend_one-2.ensures c.mend_one-3.ensures c.mend_one-4.ensures c.mend_one-5.ensures in
+    let M = reached5 c.requires.rest_len.1 c.requires.rest_len.2 c.mend_one.ensures c.mend_one-2.ensures c.mend_one-3.ensures c.mend_one-4.ensures
+    c.mend_one-5.ensures in
     record {
       finds = c.requires.finds;
       columns = c.requires.columns;
@@ -114,7 +115,8 @@ mend_one-requires-6 c =
 
 pub mend_one-requires-7 : goal.mend_one-requires-7
 mend_one-requires-7 c =
-    let M = reached6 c.requires.rest_len.1 c.requires.rest_len.2 c.mend_one.ensures c.mend_one-2.ensures c.mend_one-3.ensures c.mend_one-4.ensures c.mend_one-5.ensures c.mend_one-6.ensures in
+    let M = reached6 c.requires.rest_len.1 c.requires.rest_len.2 c.mend_one.ensures c.mend_one-2.ensures c.mend_one-3.ensures c.mend_one-4.ensures
+    c.mend_one-5.ensures c.mend_one-6.ensures in
     record {
       finds = c.requires.finds;
       columns = c.requires.columns;
@@ -125,7 +127,8 @@ mend_one-requires-7 c =
 
 pub mend_one-requires-8 : goal.mend_one-requires-8
 mend_one-requires-8 c =
-    let M = reached7 c.requires.rest_len.1 c.requires.rest_len.2 c.mend_one.ensures c.mend_one-2.ensures c.mend_one-3.ensures c.mend_one-4.ensures c.mend_one-5.ensures c.mend_one-6.ensures c.mend_one-7.ensures in
+    let M = reached7 c.requires.rest_len.1 c.requires.rest_len.2 c.mend_one.ensures c.mend_one-2.ensures c.mend_one-3.ensures c.mend_one-4.ensures
+    c.mend_one-5.ensures c.mend_one-6.ensures c.mend_one-7.ensures in
     record {
       finds = c.requires.finds;
       columns = c.requires.columns;
@@ -135,10 +138,13 @@ mend_one-requires-8 c =
     }
 
 pub shape_of-words : goal.shape_of-words
-shape_of-words c = (mending_long (reached8 c.requires.rest_len.1 c.requires.rest_len.2 c.mend_one.ensures c.mend_one-2.ensures c.mend_one-3.ensures c.mend_one-4.ensures c.mend_one-5.ensures c.mend_one-6.ensures c.mend_one-7.ensures c.mend_one-8.ensures)).0
+shape_of-words c = (mending_long (reached8 c.requires.rest_len.1 c.requires.rest_len.2 c.mend_one.ensures c.mend_one-2.ensures c.mend_one-3.ensures
+    c.mend_one-4.ensures c.mend_one-5.ensures c.mend_one-6.ensures c.mend_one-7.ensures c.mend_one-8.ensures)).0
 
 pub shape_of-flags : goal.shape_of-flags
-shape_of-flags c = (mending_long (reached8 c.requires.rest_len.1 c.requires.rest_len.2 c.mend_one.ensures c.mend_one-2.ensures c.mend_one-3.ensures c.mend_one-4.ensures c.mend_one-5.ensures c.mend_one-6.ensures c.mend_one-7.ensures c.mend_one-8.ensures)).1
+shape_of-flags c = (mending_long (reached8 c.requires.rest_len.1 c.requires.rest_len.2 c.mend_one.ensures c.mend_one-2.ensures c.mend_one-3.ensures
+    c.mend_one-4.ensures c.mend_one-5.ensures c.mend_one-6.ensures c.mend_one-7.ensures c.mend_one-8.ensures)).1
 
 pub returns : goal.returns
-returns c = mending_done (reached8 c.requires.rest_len.1 c.requires.rest_len.2 c.mend_one.ensures c.mend_one-2.ensures c.mend_one-3.ensures c.mend_one-4.ensures c.mend_one-5.ensures c.mend_one-6.ensures c.mend_one-7.ensures c.mend_one-8.ensures) (le_refl 8)
+returns c = mending_done (reached8 c.requires.rest_len.1 c.requires.rest_len.2 c.mend_one.ensures c.mend_one-2.ensures c.mend_one-3.ensures
+    c.mend_one-4.ensures c.mend_one-5.ensures c.mend_one-6.ensures c.mend_one-7.ensures c.mend_one-8.ensures) (le_refl 8)

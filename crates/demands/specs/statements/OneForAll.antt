@@ -11,8 +11,8 @@ abbrev pub OneForAll : Type 0
 OneForAll =
     (ex : Places) (n : ℕ) (flips : ℕ → List ℕ)
     → (lanes room outs flag_buffers : ℕ → List ℕ) (a : Trial ex n flips lanes room outs flag_buffers)
-    → (lanes' room' outs' flagBuffers' : ℕ → List ℕ) (b : Trial ex n flips lanes' room' outs' flagBuffers')
-    → ((f : ℕ) → f < n → (length (outs f) ≡ length (outs' f)) × (length (flag_buffers f) ≡ length (flagBuffers' f)))
+    → (lanes' room' outs' flag_buffers' : ℕ → List ℕ) (b : Trial ex n flips lanes' room' outs' flag_buffers')
+    → ((f : ℕ) → f < n → (length (outs f) ≡ length (outs' f)) × (length (flag_buffers f) ≡ length (flag_buffers' f)))
     → ((f : ℕ) → f < n → a.numbers f ≡ b.numbers f)
     × ((f : ℕ) → f < n → a.numbers f ≡ 0 → a.flag_bytes f ≡ b.flag_bytes f)
     × (Accepted a → (p i : ℕ) → p < 32 → i < 1320 * n → Wrong a p i ↔ Wrong b p i)

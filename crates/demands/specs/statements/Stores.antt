@@ -19,6 +19,6 @@ StoresHold =
 abbrev pub LastKept : Type 0
 LastKept =
     (ex : Places) (n p i : ℕ) → p < 32 → i < 1320 * n → 1320 * n ≤ i + 1440
-    → (ofSender : Bool) × (place : ℕ) × (place < 23040)
+    → (of_sender : Bool) × (place : ℕ) × (place < 23040)
     × ((lanes : ℕ → List ℕ) (sent_numbers numbers : ℕ → ℕ) (back flag_bytes : ℕ → List ℕ) (u : Undamaged ex n lanes sent_numbers numbers back flag_bytes)
-    → bit_at (cond ofSender (u.sent_stores n) (u.stores n)) place ≡ stream_bit lanes p i)
+    → bit_at (cond of_sender (u.sent_stores n) (u.stores n)) place ≡ stream_bit lanes p i)

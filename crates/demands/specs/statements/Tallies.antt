@@ -18,8 +18,8 @@ abbrev pub TalliesAlike : Type 0
 TalliesAlike =
     (ex : Places) (n : ℕ) (flips : ℕ → List ℕ)
     → (lanes room outs flag_buffers : ℕ → List ℕ) (a : Trial ex n flips lanes room outs flag_buffers)
-    → (lanes' room' outs' flagBuffers' : ℕ → List ℕ) (b : Trial ex n flips lanes' room' outs' flagBuffers')
-    → ((f : ℕ) → f < n → (length (outs f) ≡ length (outs' f)) × (length (flag_buffers f) ≡ length (flagBuffers' f)))
+    → (lanes' room' outs' flag_buffers' : ℕ → List ℕ) (b : Trial ex n flips lanes' room' outs' flag_buffers')
+    → ((f : ℕ) → f < n → (length (outs f) ≡ length (outs' f)) × (length (flag_buffers f) ≡ length (flag_buffers' f)))
     → (start : Account) (got : ℕ → ℕ) (f : ℕ) → f < n
     → reported (account_at start got a.numbers a.flag_bytes f) (got f) (a.numbers f) (a.flag_bytes f)
     ≡ reported (account_at start got b.numbers b.flag_bytes f) (got f) (b.numbers f) (b.flag_bytes f)
@@ -37,7 +37,7 @@ abbrev pub ReportsAlike : Type 0
 ReportsAlike =
     (ex : Places) (n : ℕ) (flips : ℕ → List ℕ)
     → (lanes room outs flag_buffers : ℕ → List ℕ) (a : Trial ex n flips lanes room outs flag_buffers)
-    → (lanes' room' outs' flagBuffers' : ℕ → List ℕ) (b : Trial ex n flips lanes' room' outs' flagBuffers')
+    → (lanes' room' outs' flag_buffers' : ℕ → List ℕ) (b : Trial ex n flips lanes' room' outs' flag_buffers')
     → (start asked allowed : ℕ) (got : ℕ → ℕ) (rest : List ℕ)
     → (start < 2 ^ 32) × (asked < 2 ^ 32) × (allowed < 2 ^ 32) → ((f : ℕ) → f < n → got f < 2 ^ 32)
     → (examined (captured start asked allowed got a rest) ≡ examined (captured start asked allowed got b rest))

@@ -37,6 +37,6 @@ abbrev pub TrafficSpeaks : Type 0
 TrafficSpeaks =
     (n : ℕ) (lent lanes : ℕ → List ℕ) → Generated n lent lanes
     → (ex : Places) (flips room outs flag_buffers : ℕ → List ℕ) (t : Trial ex n flips lanes room outs flag_buffers) → Accepted t
-    → (lanes' room' outs' flagBuffers' : ℕ → List ℕ) (b : Trial ex n flips lanes' room' outs' flagBuffers')
-    → ((f : ℕ) → f < n → (length (outs f) ≡ length (outs' f)) × (length (flag_buffers f) ≡ length (flagBuffers' f)))
+    → (lanes' room' outs' flag_buffers' : ℕ → List ℕ) (b : Trial ex n flips lanes' room' outs' flag_buffers')
+    → ((f : ℕ) → f < n → (length (outs f) ≡ length (outs' f)) × (length (flag_buffers f) ≡ length (flag_buffers' f)))
     → (f : ℕ) → f < n → (c : List ℕ) (r : ℕ) (c' : List ℕ) → Checks f (t.back f) c r c' → length c ≡ 32 → c' ≡ tabulate 32 (wrong_in_lane b f)

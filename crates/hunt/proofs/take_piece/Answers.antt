@@ -1,5 +1,4 @@
 -- `hunt::take_piece` meets its contract: what is left of the piece, taken in from here on, comes to what the whole of it does. Assumes nothing.
--- what is left comes to what was left before
 use mathlib.Core.Path.{◌≡◌, refl, sym, ap, ◌∙◌}
 use Prim.Native.Nat.{ℕ, ◌+◌}
 use native.Mathlib.Omega.{arith}
@@ -9,6 +8,7 @@ use Rattle.hunt.proofs.Taking.{searching, next_taken, piece_passed}
 use Rattle.hunt.proofs.take_piece.Goals.{After-take_symbol-found}
 use Rattle.hunt.proofs.take_piece.Goals as goal
 
+-- what is left comes to what was left before
 turn : (c : After-take_symbol-found)
     → let a = c.args in
     piece_taken (record { hunt = record { taken = c.loop-i.n + 1; found = c.take_symbol-found.result }; kept = c.take_symbol-found.new.kept })

@@ -1,5 +1,4 @@
 -- `lane_words::read_six` meets its contract: the first i numbers are read. Assumes nothing.
--- number i from byte o on
 use mathlib.Core.Path.{◌≡◌, refl, ap, ◌∙◌}
 use Prim.Native.Nat.{ℕ, ◌+◌, ◌*◌}
 use native.Mathlib.Omega.{arith}

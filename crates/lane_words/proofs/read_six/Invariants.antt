@@ -1,5 +1,4 @@
 -- `lane_words::read_six` meets its contract: the first i numbers are read. Assumes nothing.
--- number i from byte o on
 use mathlib.Core.List.{List}
 use Prim.Native.Nat.{ℕ, ◌+◌, ◌*◌, ◌-◌}
 use lib.ListN.{length}
@@ -7,6 +6,7 @@ use Rattle.bits.specs.definitions.Bits.{field_at}
 use Rattle.bits.proofs.Filling.{Filling}
 use Rattle.lane_words.proofs.read_six.Given as goal
 
+-- number i from byte o on
 abbrev pub from_byte : List ℕ → ℕ → ℕ → ℕ
 from_byte s o i = field_at s (8 * o + 64 * i) 64
 

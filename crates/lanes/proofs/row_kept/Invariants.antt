@@ -7,7 +7,8 @@ use Rattle.lanes.proofs.Bytewise.{moved_byte}
 use Rattle.lanes.proofs.row_kept.Given as goal
 
 abbrev pub invariant-loop-q : goal.invariant-loop-q
-invariant-loop-q l = Filling (moved_byte l.z (λ j. kept_from (rows_of l.sending) ((rows_of l.sending).start l.r + j)) l.p) (length l.initial.out) l.initial.out l.out (5 * l.q)
+invariant-loop-q l = Filling (moved_byte l.z (λ j. kept_from (rows_of l.sending) ((rows_of l.sending).start l.r + j)) l.p)
+    (length l.initial.out) l.initial.out l.out (5 * l.q)
 
 abbrev pub decreases-loop-q : goal.decreases-loop-q
 decreases-loop-q l = l.d - l.q

@@ -1,5 +1,4 @@
 -- `lanes::row_stored` meets its contract: the blocks of the turns before turn t have come out. Assumes nothing.
--- the block lies in the store
 use mathlib.Core.Path.{◌≡◌, ap, ◌∙◌, subst}
 use Prim.Native.Nat.{ℕ, ◌+◌, ◌*◌, ◌-◌}
 use native.Mathlib.Omega.{arith}

@@ -1,5 +1,4 @@
 -- `lanes::row_stored` meets its contract: the blocks of the turns before turn t have come out. Assumes nothing.
--- the block lies in the store
 use Prim.Native.Nat.{◌-◌, ◌≤◌}
 use Rattle.lanes.specs.private.Blocks.{rows_of, TurnsOut}
 use Rattle.lanes.proofs.row_stored.Given as goal

@@ -1,5 +1,4 @@
 -- `pilots::agreeing_in` meets its contract: n counts those of the first k rows that agree. Assumes nothing.
--- the symbol at row at + j is the group's pilot j
 use mathlib.Core.Path.{◌≡◌}
 use Prim.Native.Nat.{◌+◌, ◌-◌, ◌≤◌}
 use lib.Dec.{eqb}

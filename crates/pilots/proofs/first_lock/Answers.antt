@@ -29,7 +29,8 @@ pub returns-then-found-lt128 : goal.returns-then-found-lt128
 unfolding first_lock
 returns-then-found-lt128 c =
     let s = c.args.run.now in
-    first_behind (locks s) c.loop-offset.offset 128 c.loop-offset.invariant.1 c.first_in_block-found.ensures (offsets s) (omega arith) (λ h. c.if-found-lt128.true)
+    first_behind (locks s) c.loop-offset.offset 128 c.loop-offset.invariant.1 c.first_in_block-found.ensures (offsets s) (omega arith)
+    (λ h. c.if-found-lt128.true)
 
 pub loop-offset-preserved : goal.loop-offset-preserved
 loop-offset-preserved c =

@@ -1,5 +1,4 @@
 -- `pilots::locked_column` meets its contract: too few of a group are right for a lock, or the rule is asked. Assumes nothing.
--- too few of the group that begins with pilot i, at row `at`
 use mathlib.Core.Path.{◌≡◌, sym, ap, ◌∙◌}
 use mathlib.Core.Bool.{false}
 use mathlib.Core.List.{List}
@@ -15,6 +14,7 @@ use Rattle.pilots.proofs.Lock.{column_lock, no_column, column_round}
 use Rattle.pilots.proofs.Blocks.{column_closed, first_group, next_group}
 use Rattle.pilots.proofs.locked_column.Goals as goal
 
+-- too few of the group that begins with pilot i, at row `at`
 closed : (column : List ℕ) (first i : ℕ) (group : List ℕ) (at : ℕ) → length column ≡ 96 → i + 32 ≤ 96
     → ((k : ℕ) → k < 32 → (first % 96 + (i + k)) % 96 ≡ at + k) → ((k : ℕ) → k < 32 → get_or group k 0 ≡ get_or pilots (i + k) 0)
     → (table : List ℕ) {n : ℕ} → table ≡ group → n ≡ count (λ k. eqb (get_or column (at + k) 0) (get_or table k 0)) 32 → n < least_right

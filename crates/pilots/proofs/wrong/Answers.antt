@@ -1,5 +1,4 @@
 -- `pilots::wrong` meets its contract: the symbol is not there, or it is, and is compared. Assumes nothing.
--- what a test comes to, as a number
 use mathlib.Core.Path.{◌≡◌, sym, ap, ◌∙◌}
 use mathlib.Core.Bool.{Bool, cond, not}
 use mathlib.Core.List.{List}
@@ -9,6 +8,7 @@ use lib.ListN.{get_or}
 use Rattle.pilots.proofs.Lock.{met_there, met_missing, met_other}
 use Rattle.pilots.proofs.wrong.Goals as goal
 
+-- what a test comes to, as a number
 counted : {a b : Bool} → a ≡ b → ◌≡◌ {A = ℕ} (cond (not b) 1 0) (cond (not a) 1 0)
 counted e = sym (ap (λ (b : Bool). cond (not b) 1 0) e)
 

@@ -18,7 +18,8 @@ mapped l y = number 8 (λ i. bit_of 8 y (2 * lane_in l (i / 2) + (i + l) % 2))
 
 -- dibit e of each of four bytes, sixteen apart, from byte m on, side by side
 unfoldable pub dibits_at : List ℕ → ℕ → ℕ → ℕ
-dibits_at b e m = dibit_in e (get_or b m 0) * 64 + dibit_in e (get_or b (m + 16) 0) * 16 + dibit_in e (get_or b (m + 32) 0) * 4 + dibit_in e (get_or b (m + 48) 0)
+dibits_at b e m = dibit_in e (get_or b m 0) * 64 + dibit_in e (get_or b (m + 16) 0) * 16 + dibit_in e (get_or b (m + 32) 0) * 4
+    + dibit_in e (get_or b (m + 48) 0)
 
 -- of every fourth symbol of a frame from symbol e on, number j, which stands in row j / 16: from the bytes of the words, 64 a row
 unfoldable pub quarter_at : List ℕ → ℕ → ℕ → ℕ

@@ -1,5 +1,4 @@
 -- `traffic::first_word` meets its contract: sixteen bits a turn, `sixteen`. Assumes nothing.
--- so many bits fit
 use mathlib.Core.Path.{◌≡◌, refl, sym, ap, ◌∙◌}
 use Prim.Native.Nat.{ℕ, ◌+◌, ◌*◌, ◌^◌, ◌≤◌, ◌<◌}
 use native.Mathlib.Nat.{zero-add, lt_of_lt_of_le}
@@ -14,6 +13,7 @@ use Rattle.traffic.proofs.Register.{sent_lt, from_add}
 use Rattle.traffic.proofs.Stream.{sixteen}
 use Rattle.traffic.proofs.first_word.Goals as goal
 
+-- so many bits fit
 fits : (s j : ℕ) → j < 4 → number (16 * j) (bit_from s) < 2 ^ 48
 fits s j h = let l : 16 * j ≤ 48 = omega arith in lt_of_lt_of_le (value_lt 2 (16 * j) (bit_from s) (λ i _. sent_lt _)) (pow_mono l)
 

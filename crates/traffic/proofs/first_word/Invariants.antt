@@ -1,5 +1,4 @@
 -- `traffic::first_word` meets its contract: sixteen bits a turn, `sixteen`. Assumes nothing.
--- so many bits fit
 use mathlib.Core.Path.{◌≡◌}
 use Prim.Native.Nat.{◌*◌, ◌-◌, ◌^◌, ◌≤◌, ◌<◌}
 use Rattle.bits.specs.definitions.Bits.{number}

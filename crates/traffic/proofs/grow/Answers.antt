@@ -25,7 +25,8 @@ loop-n-init c = (le_refl _, c.requires.2, record { long = refl; streams = λ s h
 pub overflow_sub-words-in-loop-n-2 : goal.overflow_sub-words-in-loop-n-2
 overflow_sub-words-in-loop-n-2 c =
     let small : (i j : ℕ) → bit_xor (get_or c.loop-n.words i 0) (get_or c.loop-n.words j 0) < 2 ^ 64 = λ i j.
-    xor_lt 64 (get_or c.loop-n.words i 0) (get_or c.loop-n.words j 0) (omega (arith, c.slice_known-1.given i)) (omega (arith, c.slice_known-in-loop-n-1.given j)) in
+    xor_lt 64 (get_or c.loop-n.words i 0) (get_or c.loop-n.words j 0) (omega (arith, c.slice_known-1.given i))
+    (omega (arith, c.slice_known-in-loop-n-1.given j)) in
     omega (arith, small)
 
 pub loop-n-preserved : goal.loop-n-preserved

@@ -1,5 +1,4 @@
 -- `traffic::grow` meets its contract: each word by those 28 d and 31 d before it, `word_grown`. Assumes nothing.
--- the distances at which it is called
 use Prim.Native.Nat.{◌-◌, ◌≤◌}
 use Rattle.traffic.specs.private.Stream.{Grows}
 use Rattle.traffic.proofs.grow.Given as goal

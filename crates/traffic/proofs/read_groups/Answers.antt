@@ -1,6 +1,4 @@
 -- `traffic::read_groups` meets its contract: row after row is filled. Assumes nothing.
--- group m of row s
--- which is group 8 j + m of block i, where row s is the block's row j
 use mathlib.Core.Path.{◌≡◌, refl, ap}
 use mathlib.Core.List.{List}
 use Prim.Native.Nat.{ℕ, ◌+◌, ◌*◌}
@@ -9,9 +7,11 @@ use Rattle.bits.proofs.Filling.{filling_start, filling_put, filling_done}
 use Rattle.traffic.specs.private.Lanes.{window_at, groups_of}
 use Rattle.traffic.proofs.read_groups.Goals as goal
 
+-- group m of row s
 abbrev group : List ℕ → ℕ → ℕ → ℕ
 group words s m = window_at words (320 * s + 40 * m)
 
+-- which is group 8 j + m of block i, where row s is the block's row j
 row : (words : List ℕ) (i j s m : ℕ) → s ≡ 4 * i + j → group words s m ≡ window_at words (1280 * i + 40 * (8 * j + m))
 row words i j s m h = let e : 320 * s + 40 * m ≡ 1280 * i + 40 * (8 * j + m) = omega arith in ap (window_at words) e
 
