@@ -74,9 +74,13 @@ fn loss(accepted: u64, missing: u64, w: account::Tallies, got: u32) -> account::
     account::lose(a, got)
 }
 
+fn title(rt: &impl Print, text: &str) -> io::Result<()> {
+    println!(rt; "{text}")
+}
+
 // Entries below the line that says what they try.
-fn group(rt: &impl Print, title: &str, entries: &[account::Entry]) -> io::Result<()> {
-    println!(rt; "{title}")?;
+fn group(rt: &impl Print, text: &str, entries: &[account::Entry]) -> io::Result<()> {
+    title(rt, text)?;
     for e in entries {
         show(rt, *e)?;
     }
