@@ -151,7 +151,7 @@ fn broken_off(run: bench::Run, answer: isize) -> Came
 }
 
 // The input followed record by record, to its end, to what stops the run, or to a read that fails. Over some bytes the answer is what following them
-// comes to; that they are the input's is what `fill` and `next_piece` do and no contract can say. A read failed exactly if the answer is below 0, and a run
+// comes to; that they are the input's is what `fill` and `next_piece` do and no contract here says. A read failed exactly if the answer is below 0, and a run
 // that nothing stopped came to the end of the input, where `read` answers 0. That the answer is the last of `read`'s, and that a place moves by as much as
 // came, is read off `fill`.
 fn follow<R: Read>(source: &mut Source<R>) -> Came

@@ -1,4 +1,4 @@
--- What C's `read` answers: how many bytes came, 0 at the end of the input, a number below 0 where it failed.
+-- What `read` answers, as C's does: how many bytes came, 0 at the end of the input, a number below 0 where it failed.
 -- Assumes nothing.
 use Rattle.std.specs.Prelude.{◌≡◌, Bool, true, false, ℕ, ℤ, pos, negsuc}
 

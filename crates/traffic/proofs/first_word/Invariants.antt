@@ -1,4 +1,4 @@
--- `traffic::first_word` meets its contract: sixteen bits a turn, `sixteen`. Assumes nothing.
+-- The loop of `traffic::first_word`: sixteen bits a turn. Assumes nothing.
 use mathlib.Core.Path.{◌≡◌}
 use Prim.Native.Nat.{◌*◌, ◌-◌, ◌^◌, ◌≤◌, ◌<◌}
 use Rattle.bits.specs.definitions.Bits.{number}

@@ -1,4 +1,4 @@
--- `traffic::grow` meets its contract: each word by those 28 d and 31 d before it, `word_grown`. Assumes nothing.
+-- The loop of `traffic::grow`: each word by those 28 d and 31 d before it. Assumes nothing.
 use Prim.Native.Nat.{◌-◌, ◌≤◌}
 use Rattle.traffic.specs.private.Stream.{Grows}
 use Rattle.traffic.proofs.grow.Given as goal

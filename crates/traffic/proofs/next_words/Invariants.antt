@@ -1,4 +1,4 @@
--- `traffic::next_words` meets its contract: each word by the two before it, `word_next`. Assumes nothing.
+-- The loop of `traffic::next_words`: each word by the two before it. Assumes nothing.
 use Prim.Native.Nat.{◌-◌, ◌≤◌}
 use Rattle.traffic.specs.private.Stream.{Grows}
 use Rattle.traffic.proofs.next_words.Given as goal
