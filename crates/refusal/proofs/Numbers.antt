@@ -1,0 +1,50 @@
+-- The numbers tell refusals apart from one another, and from a call that was done.
+-- Assumes nothing.
+use mathlib.Core.Path.{◌≡◌, refl, sym, ap, ◌∙◌}
+use Rattle.std.proofs.Common.{ℕ, nat_eq, Result, Ok, Err, if◌then◌else◌}
+use Rattle.refusal.specs.declared.Refusal.{Refusal}
+use Rattle.refusal.specs.declared.Refusal.TheVariants as refusal
+use Rattle.refusal.specs.definitions.Refusal.{answer_of}
+
+-- the answer of which this is the number
+answer_by : ℕ → Result Unit Refusal
+answer_by n =
+    if nat_eq n 0 then Ok tt else
+    if nat_eq n 1 then Err refusal.Input else
+    if nat_eq n 2 then Err refusal.Store else
+    if nat_eq n 3 then Err refusal.Output else
+    if nat_eq n 4 then Err refusal.Flags else
+    if nat_eq n 5 then Err refusal.NoLock else
+    if nat_eq n 6 then Err refusal.CutShort else
+    if nat_eq n 7 then Err refusal.Length else
+    if nat_eq n 8 then Err refusal.Version else
+    if nat_eq n 9 then Err refusal.Kind else
+    if nat_eq n 10 then Err refusal.Late else
+    if nat_eq n 11 then Err refusal.Limit else
+    if nat_eq n 12 then Err refusal.Tallies else
+    if nat_eq n 13 then Err refusal.ShortRun else
+    if nat_eq n 22 then Err refusal.MoreThanOne else
+    Err refusal.TooMany
+
+by_number : (answer : Result Unit Refusal) → answer_by (answer_of answer) ≡ answer
+unfolding answer_by
+by_number (Ok x) = refl
+by_number (Err refusal.Input) = refl
+by_number (Err refusal.Store) = refl
+by_number (Err refusal.Output) = refl
+by_number (Err refusal.Flags) = refl
+by_number (Err refusal.NoLock) = refl
+by_number (Err refusal.CutShort) = refl
+by_number (Err refusal.Length) = refl
+by_number (Err refusal.Version) = refl
+by_number (Err refusal.Kind) = refl
+by_number (Err refusal.Late) = refl
+by_number (Err refusal.Limit) = refl
+by_number (Err refusal.Tallies) = refl
+by_number (Err refusal.ShortRun) = refl
+by_number (Err refusal.MoreThanOne) = refl
+by_number (Err refusal.TooMany) = refl
+
+-- answers of one number are one answer
+pub answer_injective : {a b : Result Unit Refusal} → answer_of a ≡ answer_of b → a ≡ b
+answer_injective {a} {b} e = sym (by_number a) ∙ ap answer_by e ∙ by_number b
