@@ -22,6 +22,13 @@ pub const TWO_56: u64 = 1 << 56;
 
 pub const TWO_62: u64 = 1 << 62;
 
+// A word in two numbers: bits 0 to 61 are the 62 low bits of hi, bits 62 to 125 are lo.
+#[derive(Clone, Copy, Debug, PartialEq, Eq)]
+pub struct Word {
+    pub hi: u64,
+    pub lo: u64,
+}
+
 // A byte as a number of 64 bits.
 pub fn wide8(x: u8) -> u64
     ensures { (result ≡ x) × (result < 256) }
