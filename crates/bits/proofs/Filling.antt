@@ -2,16 +2,16 @@
 -- `filling_done` answer where the loop begins, after a step and at the end; `filling_put` a step that lends a part to a callee. The measure is n - i.
 -- Assumes nothing.
 use mathlib.Core.Path.{◌≡◌, refl, sym, ap, ap₂, ◌∙◌, subst}
-use mathlib.Core.Logic.{◌⊎◌, inl, inr}
 use mathlib.Core.List.{List, [], ◌∷◌, ◌++◌, append-nil, append_assoc}
-use Prim.Native.Nat.{ℕ, zero, suc, ◌+◌, ◌-◌, ◌≤◌, ◌<◌, zero-le}
+use Prim.Native.Nat.{ℕ, zero, suc, ◌+◌, ◌-◌, ◌≤◌, ◌<◌, min, zero-le}
 use native.Mathlib.Nat.{not-suc-le-zero, le_of_suc-le-suc}
+use native.Mathlib.Decide.{dec_lt}
 use native.Mathlib.Numerals.{add-one}
 use native.Mathlib.Omega.{arith}
 use lib.ListN.{length, get_or, set, drop, take, length-append, length-take, length-drop, length-set, drop_of_length-le}
-use lib.Seq.{length-take-le, get_or-take, take_all, take-length, drop-length, take_at, drop-append-add, drop-drop, get_or-append-add, get_or-drop}
+use lib.Seq.{take_all, take-length, drop-length, take_at, drop-append-add, drop-drop, get_or-append-add, get_or-drop}
 use Rattle.bits.specs.definitions.Bits.{tabulate, copied}
-use Rattle.bits.proofs.Tabulate.{length_tabulate, tabulate_cong, tabulate_append, is_tabulate}
+use Rattle.bits.proofs.Tabulate.{length_tabulate, tabulate_cong, tabulate_append}
 
 -- out holds the first i elements of the table of f, and then what out₀ had; both are n long
 pub record Filling {A : Type 0} (f : ℕ → A) (n : ℕ) (out₀ out : List A) (i : ℕ) : Type 0 where
@@ -108,23 +108,18 @@ filling_over f {l} {out₀} {out} {n} F =
     let fits : length (tabulate n f) ≤ length out₀ = rw length_tabulate (omega (arith, F.long₀, F.upto)) in
     F.is ∙ ap₂ ◌++◌ (sym (take_all (length out₀) (tabulate n f) fits)) (ap (λ (k : ℕ). drop k out₀) (sym (length_tabulate n f)))
 
--- a buffer filled from another as far as both go holds what was copied
-pub filling_copied : {A : Type 0} (d : A) (from : List A) {l : ℕ} {out₀ out : List A} {n : ℕ} → Filling (λ i. get_or from i d) l out₀ out n → n ≤ length from
-    → (length from ≤ n) ⊎ (l ≤ n) → out ≡ copied from out₀
+-- as many elements as the shorter has, copied over the first of the other
+pub copied_shorter : {A : Type 0} (a b : List A) {c : List A} {n : ℕ} → n ≡ min (length a) (length b) → c ≡ take n a → c ++ drop n b ≡ copied a b
 unfolding copied
-filling_copied d from {l} {out₀} {out} {n} F h e =
-    F.is ∙ ap₂ ◌++◌ (sym (is_tabulate d (take n from) n (λ i. get_or from i d) (length-take-le n from h) (λ i b. get_or-take n from i d b))) refl ∙ go e
+copied_shorter a b {c} {n} m e = ap (λ l. l ++ drop n b) e ∙ at (dec_lt (length a) (length b))
   where
-    go : (length from ≤ n) ⊎ (l ≤ n) → take n from ++ drop n out₀ ≡ take (length out₀) from ++ drop (length from) out₀
-    go (inl a) =
-        let q : n ≡ length from = omega arith in
-        let b : length from ≤ length out₀ = omega (arith, F.long₀, F.upto) in
-        ap₂ ◌++◌ (ap (λ (k : ℕ). take k from) q ∙ take-length from ∙ sym (take_all (length out₀) from b)) (ap (λ (k : ℕ). drop k out₀) q)
-    go (inr a) =
-        let q : n ≡ length out₀ = omega (arith, F.long₀, F.upto) in
-        let b : length out₀ ≤ length from = omega arith in
-        ap₂ ◌++◌ (ap (λ (k : ℕ). take k from) q)
-        (ap (λ (k : ℕ). drop k out₀) q ∙ drop-length out₀ ∙ sym (drop_of_length-le out₀ b))
+    at : Dec (length a < length b) → take n a ++ drop n b ≡ take (length b) a ++ drop (length a) b
+    at (yes h) =
+        let q : n ≡ length a = omega (arith, m) in
+        ap₂ ◌++◌ (ap (λ k. take k a) q ∙ take-length a ∙ sym (take_all (length b) a (omega arith))) (ap (λ k. drop k b) q)
+    at (no h) =
+        let q : n ≡ length b = omega (arith, m) in
+        ap₂ ◌++◌ (ap (λ k. take k a) q) (ap (λ k. drop k b) q ∙ drop-length b ∙ sym (drop_of_length-le b (omega arith)))
 
 -- where they are equally long, that is the other
 pub copied_all : {A : Type 0} (a b : List A) → length a ≡ length b → copied a b ≡ a

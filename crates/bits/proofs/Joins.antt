@@ -1,25 +1,26 @@
--- Two fields in one number of w bits, by arithmetic and by bit operators; the loop that stores a number as bytes, a number's bytes in the other order, and the
--- loop that loads a number from bytes.
+-- Two fields in one number of w bits, by arithmetic and by bit operators; and a number's eight bytes, put in a list and loaded from one.
 -- Assumes nothing.
-use mathlib.Core.Path.{◌≡◌, refl, sym, ap, ap₂, ◌∙◌}
-use mathlib.Core.Logic.{◌≢◌, ◌⊎◌, inl, inr}
-use mathlib.Core.List.{List}
-use Prim.Native.Nat.{ℕ, zero, suc, ◌+◌, ◌-◌, ◌*◌, ◌/◌, ◌%◌, ◌^◌, ◌≤◌, ◌<◌, zero-le}
-use native.Mathlib.Nat.{add_comm, mod-lt, lt_of_lt_of_le, not-suc-le-zero, mul-suc, pow-suc}
-use native.Mathlib.Decide.{dec_lt, ℕ_discrete}
+use mathlib.Core.Path.{◌≡◌, refl, sym, ap, ◌∙◌}
+use mathlib.Core.Logic.{◌⊎◌, inl, inr}
+use mathlib.Core.List.{List, ◌++◌}
+use Prim.Native.Nat.{ℕ, zero, suc, ◌+◌, ◌-◌, ◌*◌, ◌/◌, ◌%◌, ◌^◌, ◌≤◌, ◌<◌}
+use native.Mathlib.Nat.{mod-lt, lt_of_lt_of_le, mul-suc, pow-suc}
+use native.Mathlib.Decide.{dec_lt}
 use native.Mathlib.Omega.{arith}
 use lib.Arith.{digits_lt}
 use lib.Pow.{pow-add, pow_pos, pow_mono, shr_lt, shl_exact}
-use lib.Dec.{lit<}
 use lib.Bits.{bit_and, bit_or, and_mask, or_shifted}
-use lib.ListN.{length, get_or, set, length-set}
-use lib.Seq.{ext_get_or, get_or-set_same, get_or-set_other}
+use lib.ListN.{length, get_or, take, drop, length-drop, get_or-append}
+use lib.Seq.{ext_get_or, length-take-le, get_or-take, get_or-drop, get_or-append-add}
+use borrow.Rule.Slice.PartMut.{put_mid, same_len_mid}
+use Rattle.std.specs.Int.{from_be_bytes, to_be_bytes}
+use Rattle.std.proofs.Common.{w64}
+use Rattle.std.proofs.lemmas.Nat.{from_be_bytes-to_be_bytes_8}
 use borrow.Author.Tests.{lt-ltb, le-ltb}
 use Rattle.bits.specs.definitions.Put.{Put, PutEight}
 use Rattle.bits.specs.definitions.Bits.{value, bit_of, bit_at, field_at, loaded_at, AllBytes}
-use Rattle.bits.specs.private.Bytes.{reversed}
-use Rattle.bits.proofs.Value.{value_cong, value_digit, value_digits}
-use Rattle.bits.proofs.Fields.{bytes_field, byte_field, field_join, field_lt, field_bit}
+use Rattle.bits.proofs.Value.{value_cong, value_digit}
+use Rattle.bits.proofs.Fields.{bytes_field, field_bit}
 
 module _ (w : ℕ) where
   -- `(a << k) | d`
@@ -37,81 +38,62 @@ module _ (w : ℕ) where
         ap (λ (v : ℕ). bit_or (v * 2 ^ k % 2 ^ w) (y / 2 ^ l)) (and_mask x m)
         ∙ push_bits m k (x % 2 ^ m) (y / 2 ^ l) h (mod-lt x (pow_pos m)) (shr_lt k l hy)
 
--- A loop that stores v as n bytes from place o on: `while j < n { l[o + j] = (v >> 8 * (n - (j + 1))) % 256; j += 1 }`. `Putting` is its
--- invariant, d the list before and l after j bytes; `Put` is what it leaves.
-pub record Putting (n v o : ℕ) (d l : List ℕ) (j : ℕ) : Type 0 where
-  pub upto : j ≤ n
-  pub fits : v < 2 ^ (8 * n)
-  pub room : o + n ≤ length d
-  pub long : length l ≡ length d
-  pub bytes : AllBytes l
-  pub before : (m : ℕ) → m < o → get_or l m 0 ≡ get_or d m 0
-  pub after : (m : ℕ) → o + j ≤ m → get_or l m 0 ≡ get_or d m 0
-  pub digit : (i : ℕ) → i < j → get_or l (o + i) 0 ≡ v / 2 ^ (8 * (n - (i + 1))) % 256
-
 byte_pow : (k : ℕ) → 2 ^ (8 * k) ≡ 256 ^ k
 byte_pow zero = refl
 byte_pow (suc k) = rw (mul-suc, pow-add, pow-suc 256 k, byte_pow k)
 
-set_bytes : (l : List ℕ) (i x : ℕ) → AllBytes l → i < length l → x < 256 → AllBytes (set l i x)
-set_bytes l i x B h b = record { byte = λ m. at m (ℕ_discrete m i) }
+-- ---- eight bytes as a number, as the library has it
+
+-- they are its digits to the base 256
+bytes_value : (b : List ℕ) → from_be_bytes w64 b ≡ value 256 8 (λ i. get_or b i 0)
+unfolding value
+bytes_value b = digits (get_or b 0 0) (get_or b 1 0) (get_or b 2 0) (get_or b 3 0) (get_or b 4 0) (get_or b 5 0) (get_or b 6 0) (get_or b 7 0)
   where
-    at : (m : ℕ) → Dec (m ≡ i) → get_or (set l i x) m 0 < 256
-    at m (yes e) = rw (e, get_or-set_same l i x 0 h) b
-    at m (no ne) = rw (get_or-set_other l i m x 0 ne) (B.byte m)
+    digits : (a b c d e f g h : ℕ) → a * 2 ^ 56 + b * 2 ^ 48 + c * 2 ^ 40 + d * 2 ^ 32 + e * 2 ^ 24 + f * 65536 + g * 256 + h
+        ≡ (((((((0 * 256 + a) * 256 + b) * 256 + c) * 256 + d) * 256 + e) * 256 + f) * 256 + g) * 256 + h
+    digits a b c d e f g h = omega arith
 
-module _ {n v o : ℕ} {d : List ℕ} where
-  pub putting_start : AllBytes d → v < 2 ^ (8 * n) → o + n ≤ length d → Putting n v o d d 0
-  putting_start B h room =
-      record {
-        upto = zero-le;
-        fits = h;
-        room = room;
-        long = refl;
-        bytes = B;
-        before = λ m l. refl;
-        after = λ m l. refl;
-        digit = λ i l. absurd (not-suc-le-zero l);
-      }
+-- what is left where v's eight bytes were copied over those from place o on
+pub put_eight : (v o : ℕ) (d b : List ℕ) → v < 2 ^ 64 → o + 8 ≤ length d → b ≡ to_be_bytes w64 v → AllBytes (put_mid o (o + 8 - o) d b)
+    → PutEight v o d (put_mid o (o + 8 - o) d b)
+put_eight v o d b small room e B = record { room = λ h. eight; none = λ h. absurd (omega arith) }
+  where
+    l : List ℕ
+    l = put_mid o (o + 8 - o) d b
 
-  pub putting_step : {l : List ℕ} {j x : ℕ} → Putting n v o d l j → j < n → x ≡ v / 2 ^ (8 * (n - (j + 1))) % 256
-      → Putting n v o d (set l (o + j) x) (j + 1)
-  putting_step {l} {j} {x} P h e =
-      record {
-        upto = omega arith;
-        fits = P.fits;
-        room = P.room;
-        long = length-set l (o + j) x ∙ P.long;
-        bytes = set_bytes l (o + j) x P.bytes inside (omega arith);
-        before = λ m b. other m (omega arith) ∙ P.before m b;
-        after = λ m b. other m (omega arith) ∙ P.after m (omega arith);
-        digit = λ i b. at i (ℕ_discrete i j) b;
-      }
-    where
-      inside : o + j < length l
-      inside = omega (arith, P.long)
+    front : length (take o d) ≡ o
+    front = length-take-le o d (omega arith)
 
-      other : (m : ℕ) → m ≢ o + j → get_or (set l (o + j) x) m 0 ≡ get_or l m 0
-      other m ne = get_or-set_other l (o + j) m x 0 ne
+    long : length b ≡ 8
+    long = ap length e
 
-      at : (i : ℕ) → Dec (i ≡ j) → i < j + 1 → get_or (set l (o + j) x) (o + i) 0 ≡ v / 2 ^ (8 * (n - (i + 1))) % 256
-      at i (yes q) b = rw (q, get_or-set_same l (o + j) x 0 inside) e
-      at i (no ne) b = other (o + i) (omega arith) ∙ P.digit i (omega arith)
+    rest : o + 8 - o ≡ 8
+    rest = omega arith
 
-  pub putting_done : {l : List ℕ} {j : ℕ} → Putting n v o d l j → n ≤ j → Put n v o d l
-  putting_done {l} {j} P h =
-      record {
-        long = P.long;
-        bytes = P.bytes;
-        before = P.before;
-        after = λ m b. P.after m (omega arith);
-        is = sym (bytes_field l P.bytes o n) ∙ value_cong 256 n _ _ digit ∙ value_digits 256 n v (rw byte_pow at P.fits);
-      }
-    where
-      digit : (i : ℕ) → i < n → get_or l (o + i) 0 ≡ v / 256 ^ (n - 1 - i) % 256
-      digit i b =
-          let same : n - (i + 1) ≡ n - 1 - i = omega arith in
-          rw (← same, ← byte_pow) (P.digit i (omega arith))
+    behind : (m : ℕ) → get_or l (o + m) 0 ≡ get_or (b ++ drop (o + 8 - o) (drop o d)) m 0
+    behind m = ap (λ (k : ℕ). get_or l (k + m) 0) (sym front) ∙ get_or-append-add (take o d) (b ++ drop (o + 8 - o) (drop o d)) m 0
+
+    digit : (i : ℕ) → i < 8 → get_or l (o + i) 0 ≡ get_or b i 0
+    digit i h = behind i ∙ get_or-append b (drop (o + 8 - o) (drop o d)) 0 i (omega (arith, long))
+
+    beyond : (m : ℕ) → get_or l (o + (8 + m)) 0 ≡ get_or d (o + (8 + m)) 0
+    beyond m =
+        behind (8 + m) ∙ ap (λ (k : ℕ). get_or (b ++ drop (o + 8 - o) (drop o d)) (k + m) 0) (sym long)
+        ∙ get_or-append-add b (drop (o + 8 - o) (drop o d)) m 0
+        ∙ ap (λ (k : ℕ). get_or (drop k (drop o d)) m 0) rest ∙ get_or-drop 8 (drop o d) m 0 ∙ get_or-drop o d (8 + m) 0
+
+    eight : Put 8 v o d l
+    eight =
+        record {
+          long = same_len_mid o (o + 8 - o) d b (omega (arith, long, length-mid));
+          bytes = B;
+          before = λ m h. get_or-append (take o d) _ 0 m (omega (arith, front)) ∙ get_or-take o d m 0 h;
+          after = λ m h. let s : o + (8 + (m - o - 8)) ≡ m = omega arith in ap (λ k. get_or l k 0) (sym s) ∙ beyond (m - o - 8) ∙ ap (λ k. get_or d k 0) s;
+          is = sym (bytes_field l B o 8) ∙ value_cong 256 8 _ _ digit ∙ sym (bytes_value b) ∙ ap (from_be_bytes w64) e ∙ from_be_bytes-to_be_bytes_8 v small;
+        }
+      where
+        length-mid : length (take (o + 8 - o) (drop o d)) ≡ 8
+        length-mid = length-take-le (o + 8 - o) (drop o d) (omega (arith, length-drop o d)) ∙ rest
 
 -- each byte of what was put
 pub put_byte : {n v o : ℕ} {d l : List ℕ} → Put n v o d l → (i : ℕ) → i < n → get_or l (o + i) 0 ≡ v / 2 ^ (8 * (n - 1 - i)) % 256
@@ -128,74 +110,6 @@ unfolding bit_at
 put_kept P i (inl h) = ap (λ (x : ℕ). bit_of 8 x (i % 8)) (P.before (i / 8) (omega arith))
 put_kept P i (inr h) = ap (λ (x : ℕ). bit_of 8 x (i % 8)) (P.after (i / 8) (omega arith))
 
--- ---- a number's bytes in the other order
-
--- eight bytes as a number
-pub eight_bytes : (a b c d e f g h : ℕ) → a < 256 → b < 256 → c < 256 → d < 256 → e < 256 → f < 256 → g < 256 → h < 256
-    → a * 2 ^ 56 + b * 2 ^ 48 + c * 2 ^ 40 + d * 2 ^ 32 + e * 2 ^ 24 + f * 65536 + g * 256 + h < 2 ^ 64
-eight_bytes a b c d e f g h ha hb hc hd he hf hg hh = omega arith
-
-pub reversed_law : (v : ℕ) → v < 2 ^ 64
-    → v % 256 * 2 ^ 56 + v / 256 % 256 * 2 ^ 48 + v / 65536 % 256 * 2 ^ 40 + v / 2 ^ 24 % 256 * 2 ^ 32 + v / 2 ^ 32 % 256 * 2 ^ 24 + v / 2 ^ 40 % 256 * 65536
-    + v / 2 ^ 48 % 256 * 256 + v / 2 ^ 56 ≡ reversed v
-unfolding reversed value
-reversed_law v h =
-    sums (v % 256) _ (v / 256 % 256) (v / 65536 % 256) (v / 2 ^ 24 % 256) (v / 2 ^ 32 % 256) (v / 2 ^ 40 % 256) (v / 2 ^ 48 % 256) _ _
-    (omega arith) (omega arith)
-  where
-    sums : (a a' b c d e f g h h' : ℕ) → a ≡ a' → h ≡ h'
-        → a * 2 ^ 56 + b * 2 ^ 48 + c * 2 ^ 40 + d * 2 ^ 32 + e * 2 ^ 24 + f * 65536 + g * 256 + h
-        ≡ (((((((0 * 256 + a') * 256 + b) * 256 + c) * 256 + d) * 256 + e) * 256 + f) * 256 + g) * 256 + h'
-    sums a a' b c d e f g h h' p q = omega arith
-
--- the byte that stands at a place from below
-pub reversed_byte : (v j : ℕ) → j < 8 → reversed v / 2 ^ (8 * j) % 256 ≡ v / 2 ^ (8 * (8 - (j + 1))) % 256
-unfolding reversed
-reversed_byte v j h =
-    let e : j ≡ 8 - 1 - (8 - (j + 1)) = omega arith in
-    rw byte_pow
-    (ap (λ (k : ℕ). value 256 8 (λ i. v / 2 ^ (8 * i) % 256) / 256 ^ k % 256) e
-    ∙ value_digit 256 8 (λ i. v / 2 ^ (8 * i) % 256) (λ i _. mod-lt (v / 2 ^ (8 * i)) (lit< tt)) (8 - (j + 1)) (omega arith))
-
--- ---- `while j < 8 { v = v + (s[o + (7 - j)] << 8 * j); j += 1 }`
-
--- v is the last j of the eight bytes from place o on
-pub record Loading (s : List ℕ) (o j v : ℕ) : Type 0 where
-  pub upto : j ≤ 8
-  pub bytes : AllBytes s
-  pub is : v ≡ field_at s (8 * (o + (8 - j))) (8 * j)
-
-module _ {s : List ℕ} {o : ℕ} where
-  pub loading_start : AllBytes s → Loading s o 0 0
-  unfolding field_at value
-  loading_start B = record { upto = zero-le; bytes = B; is = refl }
-
-  pub loading_step : {j v w : ℕ} → Loading s o j v → j < 8 → w ≡ get_or s (o + (7 - j)) 0 → Loading s o (j + 1) (v + w * 2 ^ (8 * j) % 2 ^ 64)
-  loading_step {j} {v} {w} L h e =
-      let here = o + (7 - j) in
-      let small : w < 2 ^ 8 = omega (arith, L.bytes.byte here) in
-      let one : 8 * here + 8 ≡ 8 * (o + (8 - j)) = omega arith in
-      let from : here ≡ o + (8 - (j + 1)) = omega arith in
-      let long : 8 + 8 * j ≡ 8 * (j + 1) = omega arith in
-      record {
-        upto = omega arith;
-        bytes = L.bytes;
-        is =
-            ap (λ (x : ℕ). v + x) (shl_exact 8 (8 * j) 64 small (omega arith)) ∙ add_comm v (w * 2 ^ (8 * j))
-            ∙ ap₂ (λ (x y : ℕ). x * 2 ^ (8 * j) + y) (e ∙ sym (byte_field s L.bytes here)) (L.is ∙ ap (λ (i : ℕ). field_at s i (8 * j)) (sym one))
-            ∙ sym (field_join s (8 * here) 8 (8 * j)) ∙ ap₂ (λ (p n : ℕ). field_at s (8 * p) n) from long;
-      }
-
-  -- what is loaded fits
-  pub loading_lt : {j v : ℕ} → Loading s o j v → v < 2 ^ 64
-  loading_lt {j} {v} L = let h : 8 * j ≤ 64 = omega arith in rw L.is (lt_of_lt_of_le (field_lt s (8 * (o + (8 - j))) (8 * j)) (pow_mono h))
-
-  pub loading_done : {j v : ℕ} → Loading s o j v → 8 ≤ j → v ≡ field_at s (8 * o) 64
-  loading_done {j} {v} L h =
-      let from : o + (8 - j) ≡ o = omega arith in
-      let long : 8 * j ≡ 64 = omega arith in
-      L.is ∙ ap₂ (λ (p n : ℕ). field_at s (8 * p) n) from long
-
 -- where there are eight bytes they are loaded, and else 0 is
 pub loaded_is : (s : List ℕ) (o : ℕ) → o + 8 ≤ length s → loaded_at s o ≡ field_at s (8 * o) 64
 unfolding loaded_at
@@ -204,6 +118,14 @@ loaded_is s o h = rw (le-ltb (length s) (o + 8) h)
 pub loaded_none : (s : List ℕ) (o : ℕ) → length s < o + 8 → 0 ≡ loaded_at s o
 unfolding loaded_at
 loaded_none s o h = rw (lt-ltb (length s) (o + 8) h)
+
+-- eight bytes copied out of s from place o on, as a number
+pub load_eight : (s b : List ℕ) (o : ℕ) → AllBytes s → o + 8 ≤ length s → b ≡ take (o + 8 - o) (drop o s) → from_be_bytes w64 b ≡ loaded_at s o
+load_eight s b o B h e = bytes_value b ∙ value_cong 256 8 _ _ digit ∙ bytes_field s B o 8 ∙ sym (loaded_is s o h)
+  where
+    digit : (i : ℕ) → i < 8 → get_or b i 0 ≡ get_or s (o + i) 0
+    digit i h =
+        ap (λ (l : List ℕ). get_or l i 0) e ∙ get_or-take (o + 8 - o) (drop o s) i 0 (omega arith) ∙ get_or-drop o s i 0
 
 -- what was put is known
 put_unique : {n v o : ℕ} {d l k : List ℕ} → Put n v o d l → Put n v o d k → l ≡ k

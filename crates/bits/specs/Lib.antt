@@ -1,2 +1,1 @@
 pub mod definitions
-pub mod private

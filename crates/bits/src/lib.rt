@@ -2,10 +2,9 @@
 // question asked.
 #![tactic(auto)]
 
-ghost use Rattle.std.specs.Prelude.{◌≡◌, ◌⊎◌, ◌%◌, ◌^◌, ◌<◌, ◌≤◌, length};
+ghost use Rattle.std.specs.Prelude.{◌≡◌, ◌%◌, ◌^◌, ◌<◌, length};
 ghost use Rattle.bits.specs.definitions.Bits.{loaded_at, copied};
 ghost use Rattle.bits.specs.definitions.Put.{PutEight};
-ghost use Rattle.bits.specs.private.Bytes.{reversed};
 
 // Powers of two by which numbers are cut, as the definitions write them: 2^24 and so on.
 pub const TWO_24: u64 = 1 << 24;
@@ -57,80 +56,32 @@ pub fn low_byte(x: u64) -> u8
     (x % 256) as u8
 }
 
-// A number's eight bytes in the other order: the compiler has one instruction for it.
-fn reversed(v: u64) -> u64
-    ensures { result ≡ reversed v }
-{
-    v % 256 * TWO_56
-        + v / 256 % 256 * TWO_48
-        + v / 65536 % 256 * TWO_40
-        + v / TWO_24 % 256 * TWO_32
-        + v / TWO_32 % 256 * TWO_24
-        + v / TWO_40 % 256 * 65536
-        + v / TWO_48 % 256 * 256
-        + v / TWO_56
-}
-
-// The eight bytes from byte o on as a number, the first on top; added from the last on, so that the compiler makes one move of them. 0 where there are not
-// eight.
+// The eight bytes from byte o on as a number, the first on top. 0 where there are not eight.
 pub fn load(s: &[u8], o: usize) -> u64
     ensures { result ≡ loaded_at s.now o }
 {
-    if s.len() < 8 {
+    if s.len() < 8 || s.len() - 8 < o {
         return 0;
     }
-    if s.len() - 8 < o {
-        return 0;
-    }
-    let mut v: u64 = 0;
-    let mut j: usize = 0;
-    while j < 8 {
-        let k = (8 * j) as u64;
-        v = v + (wide8(s[o + (7 - j)]) << k);
-        j += 1;
-    }
-    v
+    let mut bytes = [0u8; 8];
+    bytes.copy_from_slice(&s[o..o + 8]);
+    u64::from_be_bytes(bytes)
 }
 
-// v as the eight bytes from byte o on: reversed first, so that the compiler makes one move of them. Where there are not eight, nothing changes.
+// v as the eight bytes from byte o on. Where there are not eight, nothing changes.
 pub fn put(out: &mut [u8], o: usize, v: u64)
     ensures { PutEight v o out.old out.new }
 {
-    if out.len() < 8 {
+    if out.len() < 8 || out.len() - 8 < o {
         return;
     }
-    if out.len() - 8 < o {
-        return;
-    }
-    let w = reversed(v);
-    let mut j: usize = 0;
-    while j < 8 {
-        let k = (8 * j) as u64;
-        out[o + j] = low_byte(w >> k);
-        j += 1;
-    }
-}
-
-// The first n bytes of from over those of to.
-fn copy_first(n: usize, from: &[u8], to: &mut [u8])
-    requires n_in_bounds { (n ≤ length from.now) × (n ≤ length to.old) }
-    requires fact { (length from.now ≤ n) ⊎ (length to.old ≤ n) }
-    ensures { to.new ≡ copied from.now to.old }
-{
-    let mut i: usize = 0;
-    while i < n {
-        to[i] = from[i];
-        i += 1;
-    }
+    out[o..o + 8].copy_from_slice(&v.to_be_bytes());
 }
 
 // The bytes of from over those of to, as far as both go.
 pub fn copy(from: &[u8], to: &mut [u8])
     ensures { to.new ≡ copied from.now to.old }
 {
-    if from.len() < to.len() {
-        copy_first(from.len(), from, to);
-    } else {
-        copy_first(to.len(), from, to);
-    }
+    let n = from.len().min(to.len());
+    to[..n].copy_from_slice(&from[..n]);
 }
