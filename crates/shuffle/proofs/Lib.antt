@@ -1,3 +1,4 @@
 pub mod Rotating
+pub mod Rows
 pub mod Places
 pub mod Determined

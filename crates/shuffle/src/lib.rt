@@ -2,10 +2,10 @@
 // A word is two numbers: hi has bits 0 to 61 in its 62 low bits, lo has bits 62 to 125. Word 32 k + p of a row is word k of lane p.
 #![tactic(auto)]
 
-ghost use Rattle.std.specs.Prelude.{◌≡◌, ◌<◌, ◌+◌, ◌*◌, ◌/◌, ◌%◌, ◌^◌, length};
-ghost use Rattle.bits.specs.definitions.Words.{word_bytes};
+ghost use Rattle.std.specs.Prelude.{◌≡◌, ℕ, ◌<◌, ◌%◌, ◌^◌};
+ghost use Rattle.bits.specs.definitions.Words.{word_of, word_bytes};
 ghost use Rattle.shuffle.specs.definitions.Shuffle.{shuffled, unshuffled};
-ghost use Rattle.shuffle.specs.private.Rotation.{crossed, rotated_first, rotated, Holds, HoldsBytes, LaneRotated, rotated_row};
+ghost use Rattle.shuffle.specs.private.Rotation.{crossed, rotated_first, rotated, HoldsNumbers, HoldsBytes, WordPut, LaneRotated, LanesRotated};
 
 // A word in two numbers.
 #[derive(Clone, Copy)]
@@ -19,6 +19,7 @@ struct Word {
 struct Halves {
     first: u64,
     second: u64,
+    ghost bounded: { (first < 2 ^ 55) × (second < 2 ^ 55) },
 }
 
 // The n last bits of x and then the 55 - n first of y, both numbers of 55 bits.
@@ -26,159 +27,117 @@ fn cross(x: u64, y: u64, n: u64) -> u64
     requires { (y < 2 ^ 55) × (n < 55) }
     ensures { (result ≡ crossed n x y) × (result < 2 ^ 55) }
 {
-    let one = 1u64 << n;
-    let mask = one - 1;
-    let left = 55 - n;
-    ((x & mask) << left) | (y >> n)
+    let mask = (1 << n) - 1;
+    ((x & mask) << (55 - n)) | (y >> n)
 }
 
 // Two halves rotated by n places, round the whole of 110.
 fn rotate_halves(h: Halves, n: u64) -> Halves
-    requires first_bound { (h.first < 2 ^ 55) × (h.second < 2 ^ 55) }
-    requires n_bound { n < 110 }
-    ensures first_value { (result.first ≡ rotated_first n h.first h.second) × (result.second ≡ rotated_first n h.second h.first) }
-    ensures first_bound_2 { (result.first < 2 ^ 55) × (result.second < 2 ^ 55) }
+    requires { n < 110 }
+    ensures { (result.first ≡ rotated_first n h.first h.second) × (result.second ≡ rotated_first n h.second h.first) }
 {
-    let x = h.first;
-    let y = h.second;
-    if n < 55 {
-        let a = cross(y, x, n);
-        let b = cross(x, y, n);
-        return Halves {
-            first: a,
-            second: b,
-        };
-    }
-    let m = n - 55;
-    let a = cross(x, y, m);
-    let b = cross(y, x, m);
+    let (x, y, m) = if n < 55 {
+        (h.second, h.first, n)
+    } else {
+        (h.first, h.second, n - 55)
+    };
     Halves {
-        first: a,
-        second: b,
+        first: cross(x, y, m),
+        second: cross(y, x, m),
     }
 }
 
 // A word whose information is rotated by n places; its parity stays.
-fn rotate(hi: u64, lo: u64, n: u64) -> Word
-    requires { (hi < 2 ^ 62) × (n < 110) }
-    ensures { (result.hi ≡ rotated n (hi * 2 ^ 64 + lo) / 2 ^ 64) × (result.lo ≡ rotated n (hi * 2 ^ 64 + lo) % 2 ^ 64) }
+fn rotate(word: Word, n: u64) -> Word
+    requires { n < 110 }
+    ensures bounded { result.hi < 2 ^ 62 }
+    ensures value { word_of result.hi result.lo ≡ rotated n (word_of word.hi word.lo) }
 {
-    let first = hi / 128;
-    let second = hi % 128 * bits::TWO_48 + lo / 65536;
-    let h = rotate_halves(Halves { first, second }, n);
-    let a = h.first;
-    let b = h.second;
+    let hi = word.hi % bits::TWO_62;
+    let halves = Halves {
+        first: hi / 128,
+        second: hi % 128 * bits::TWO_48 + word.lo / 65536,
+    };
+    let Halves { first, second } = rotate_halves(halves, n);
     Word {
-        hi: a * 128 + b / bits::TWO_48,
-        lo: b % bits::TWO_48 * 65536 + lo % 65536,
+        hi: first * 128 + second / bits::TWO_48,
+        lo: second % bits::TWO_48 * 65536 + word.lo % 65536,
     }
 }
 
-// The twelve words of lane p rotated by n places.
-fn rotate_lane(words: &[u64], p: usize, n: u64, out: &mut [u64])
-    requires words_len { (length words.now ≡ 768) × (length out.old ≡ 768) }
-    requires p_bound { (p < 32) × (n < 110) }
-    ensures { LaneRotated Holds 2 n p words.now out.old 12 out.new }
+// What has a row's 384 words.
+trait Row {
+    // Word i of the row is w.
+    ghost holds: { Self → ℕ → ℕ → Type 0 };
+
+    fn put_word(&mut self, i: usize, word: Word)
+        requires { (i < 384) × (word.hi < 2 ^ 62) }
+        ensures { WordPut holds i (word_of word.hi word.lo) self.old self.new };
+}
+
+// Two numbers a word.
+impl Row for [u64; 768] {
+    ghost holds = { HoldsNumbers };
+
+    fn put_word(&mut self, i: usize, word: Word) {
+        self[2 * i] = word.hi;
+        self[2 * i + 1] = word.lo;
+    }
+}
+
+// Sixteen bytes a word.
+impl Row for [u8; 6144] {
+    ghost holds = { HoldsBytes };
+
+    fn put_word(&mut self, i: usize, word: Word) {
+        bits::put(self, 16 * i, word.hi);
+        bits::put(self, 16 * i + 8, word.lo);
+    }
+}
+
+// The twelve words of lane p rotated by N places: compiled for each amount by itself, since a shift by a literal takes half the time.
+fn rotate_lane<const N: u64, R: Row>(words: &[u64; 768], p: usize, out: &mut R)
+    requires { (p < 32) × (N < 110) }
+    ensures { LaneRotated R.holds N p words.now out.old 12 out.new }
 {
-    let mut k: usize = 0;
-    while k < 12 {
+    for k in 0..12 {
         let i = 32 * k + p;
-        let hi = words[2 * i];
-        let lo = words[2 * i + 1];
-        let w = rotate(hi % bits::TWO_62, lo, n);
-        out[2 * i] = w.hi;
-        out[2 * i + 1] = w.lo;
-        k += 1;
+        let word = Word {
+            hi: words[2 * i],
+            lo: words[2 * i + 1],
+        };
+        out.put_word(i, rotate(word, N));
     }
 }
 
-// The same by a literal for each amount that the shuffle has: compiled so, the shifts take half the time.
-fn unshuffle_lane(words: &[u64], p: usize, n: u64, out: &mut [u64])
-    requires words_len { (length words.now ≡ 768) × (length out.old ≡ 768) }
-    requires p_bound { (p < 32) × (n < 110) }
-    ensures { LaneRotated Holds 2 n p words.now out.old 12 out.new }
+// By one of the amounts that the shuffle has.
+fn rotate_lane_by<R: Row>(words: &[u64; 768], p: usize, n: usize, out: &mut R)
+    requires { (p < 32) × (n < 110) × (n % 10 ≡ 0) }
+    ensures { LaneRotated R.holds n p words.now out.old 12 out.new }
 {
     match n {
-        0 => rotate_lane(words, p, 0, out),
-        10 => rotate_lane(words, p, 10, out),
-        20 => rotate_lane(words, p, 20, out),
-        30 => rotate_lane(words, p, 30, out),
-        40 => rotate_lane(words, p, 40, out),
-        50 => rotate_lane(words, p, 50, out),
-        60 => rotate_lane(words, p, 60, out),
-        70 => rotate_lane(words, p, 70, out),
-        80 => rotate_lane(words, p, 80, out),
-        90 => rotate_lane(words, p, 90, out),
-        100 => rotate_lane(words, p, 100, out),
-        _ => rotate_lane(words, p, n, out),
+        0 => rotate_lane::<0, R>(words, p, out),
+        10 => rotate_lane::<10, R>(words, p, out),
+        20 => rotate_lane::<20, R>(words, p, out),
+        30 => rotate_lane::<30, R>(words, p, out),
+        40 => rotate_lane::<40, R>(words, p, out),
+        50 => rotate_lane::<50, R>(words, p, out),
+        60 => rotate_lane::<60, R>(words, p, out),
+        70 => rotate_lane::<70, R>(words, p, out),
+        80 => rotate_lane::<80, R>(words, p, out),
+        90 => rotate_lane::<90, R>(words, p, out),
+        100 => rotate_lane::<100, R>(words, p, out),
+        _ => unreachable!(),
     }
 }
 
 // Each word of a row rotated, a word of lane p by so many places times p.
-fn rotate_words(words: &[u64], places: usize, out: &mut [u64])
-    requires words_len { (length words.now ≡ 768) × (length out.old ≡ 768) }
-    requires places_bound { places < 110 }
-    ensures { out.new ≡ rotated_row places words.now }
+fn rotate_words<R: Row>(words: &[u64; 768], places: usize, out: &mut R)
+    requires { (places < 110) × (places % 10 ≡ 0) }
+    ensures { LanesRotated R.holds places words.now 32 out.new }
 {
-    let mut p: usize = 0;
-    while p < 32 {
-        let n = (places * p % 110) as u64;
-        unshuffle_lane(words, p, n, out);
-        p += 1;
-    }
-}
-
-// The twelve words of lane p rotated by n places, each put as sixteen bytes.
-fn put_lane(words: &[u64], p: usize, n: u64, out: &mut [u8])
-    requires words_len { (length words.now ≡ 768) × (length out.old ≡ 6144) }
-    requires p_bound { (p < 32) × (n < 110) }
-    ensures { LaneRotated HoldsBytes 16 n p words.now out.old 12 out.new }
-{
-    let mut k: usize = 0;
-    while k < 12 {
-        let i = 32 * k + p;
-        let hi = words[2 * i];
-        let lo = words[2 * i + 1];
-        let w = rotate(hi % bits::TWO_62, lo, n);
-        bits::put(out, 16 * i, w.hi);
-        bits::put(out, 16 * i + 8, w.lo);
-        k += 1;
-    }
-}
-
-// By a literal for each amount, as in `unshuffle_lane`.
-fn place_lane(words: &[u64], p: usize, n: u64, out: &mut [u8])
-    requires words_len { (length words.now ≡ 768) × (length out.old ≡ 6144) }
-    requires p_bound { (p < 32) × (n < 110) }
-    ensures { LaneRotated HoldsBytes 16 n p words.now out.old 12 out.new }
-{
-    match n {
-        0 => put_lane(words, p, 0, out),
-        10 => put_lane(words, p, 10, out),
-        20 => put_lane(words, p, 20, out),
-        30 => put_lane(words, p, 30, out),
-        40 => put_lane(words, p, 40, out),
-        50 => put_lane(words, p, 50, out),
-        60 => put_lane(words, p, 60, out),
-        70 => put_lane(words, p, 70, out),
-        80 => put_lane(words, p, 80, out),
-        90 => put_lane(words, p, 90, out),
-        100 => put_lane(words, p, 100, out),
-        _ => put_lane(words, p, n, out),
-    }
-}
-
-// Each word of a row rotated, a word of lane p by so many places times p, as bytes.
-fn place_words(words: &[u64], places: usize, out: &mut [u8])
-    requires words_len { (length words.now ≡ 768) × (length out.old ≡ 6144) }
-    requires places_bound { places < 110 }
-    ensures { out.new ≡ word_bytes 384 (rotated_row places words.now) }
-{
-    let mut p: usize = 0;
-    while p < 32 {
-        let n = (places * p % 110) as u64;
-        place_lane(words, p, n, out);
-        p += 1;
+    for p in 0..32 {
+        rotate_lane_by(words, p, places * p % 110, out);
     }
 }
 
@@ -186,7 +145,7 @@ fn place_words(words: &[u64], places: usize, out: &mut [u8])
 pub fn shuffle_words(words: &[u64; 768], out: &mut [u8; 6144])
     ensures { out.new ≡ word_bytes 384 (shuffled words.now) }
 {
-    place_words(words, 20, out);
+    rotate_words(words, 20, out);
 }
 
 // And back: a rotation by 20 p and one by 90 p bring each bit back.

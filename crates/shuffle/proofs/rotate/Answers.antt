@@ -1,10 +1,9 @@
 -- `shuffle::rotate` meets its contract: `rotate_law`. Assumes nothing.
-use Rattle.shuffle.proofs.Rotating.{rotate_law}
 use borrow.Author.Rules.{rules}
+use Rattle.shuffle.proofs.Rotating.{rotate_law}
 use Rattle.shuffle.proofs.rotate.Goals as goal
 
-pub returns : goal.returns
-returns c =
-    let a = c.args in
-    let h = c.rotate_halves-h.ensures.first_value in
-    rotate_law a.n a.hi a.lo _ _ c.requires.1 c.requires.0 (search rules) h.0 h.1
+pub returns-clause-value : goal.returns-clause-value
+returns-clause-value c =
+    let h = c.rotate_halves-first in
+    rotate_law c.args.n c.args.word.hi c.args.word.lo _ _ c.requires (search rules) h.result.bounded.0 h.result.bounded.1 h.ensures.0 h.ensures.1

@@ -1,6 +1,6 @@
 -- A word's information rotated, and every word of a row, as numbers or as bytes. No promise to a caller rests on a definition here.
 -- Assumes nothing.
-use Rattle.std.specs.Prelude.{◌≡◌, ◌≢◌, cond, List, ℕ, ◌+◌, ◌*◌, ◌-◌, ◌/◌, ◌%◌, ◌^◌, ◌<◌, ltb, length, get_or}
+use Rattle.std.specs.Prelude.{◌≡◌, ◌≢◌, cond, List, ℕ, ◌+◌, ◌*◌, ◌-◌, ◌/◌, ◌%◌, ◌^◌, ◌<◌, ltb, get_or}
 use Rattle.bits.specs.definitions.Bits.{number, bit_of}
 use Rattle.bits.specs.definitions.Words.{word_at, row_of}
 
@@ -20,19 +20,27 @@ crossed n x y = x % 2 ^ n * 2 ^ (55 - n) + y / 2 ^ n
 unfoldable pub rotated_first : ℕ → ℕ → ℕ → ℕ
 rotated_first n x y = cond (ltb n 55) (crossed n y x) (crossed (n - 55) x y)
 
--- word i of the row o is w
-abbrev pub Holds : List ℕ → ℕ → ℕ → Type 0
-Holds o i w = (get_or o (2 * i) 0 ≡ w / 2 ^ 64) × (get_or o (2 * i + 1) 0 ≡ w % 2 ^ 64)
+-- word i of the row o, two numbers a word, is w
+abbrev pub HoldsNumbers : List ℕ → ℕ → ℕ → Type 0
+HoldsNumbers o i w = (get_or o (2 * i) 0 ≡ w / 2 ^ 64) × (get_or o (2 * i + 1) 0 ≡ w % 2 ^ 64)
 
 -- word i of the bytes o, sixteen a word, is w
 abbrev pub HoldsBytes : List ℕ → ℕ → ℕ → Type 0
 HoldsBytes o i w = (b : ℕ) → b < 16 → get_or o (16 * i + b) 0 ≡ w / 2 ^ (8 * (15 - b)) % 256
 
--- the list o, so many elements a word, holds the first k words of lane p of the row s, rotated by n places; its other lanes are those of o₀
-pub record LaneRotated (H : List ℕ → ℕ → ℕ → Type 0) (size n p : ℕ) (s o₀ : List ℕ) (k : ℕ) (o : List ℕ) : Type 0 where
-  pub long : length o ≡ length o₀
-  pub here : (i : ℕ) → i < 384 → i % 32 ≡ p → i / 32 < k → H o i (rotated n (word_at s i))
-  pub there : (j : ℕ) → j / size % 32 ≢ p → get_or o j 0 ≡ get_or o₀ j 0
+-- word i of the row r is w, where H says so; its other words are those of r₀
+pub record WordPut {R : Type 0} (H : R → ℕ → ℕ → Type 0) (i w : ℕ) (r₀ r : R) : Type 0 where
+  pub here : H r i w
+  pub there : (j v : ℕ) → j ≢ i → H r₀ j v → H r j v
+
+-- the row r has the first k words of lane p of the row s, rotated by n places; its other lanes are those of r₀
+pub record LaneRotated {R : Type 0} (H : R → ℕ → ℕ → Type 0) (n p : ℕ) (s : List ℕ) (r₀ : R) (k : ℕ) (r : R) : Type 0 where
+  pub here : (i : ℕ) → i < 384 → i % 32 ≡ p → i / 32 < k → H r i (rotated n (word_at s i))
+  pub there : (j v : ℕ) → j % 32 ≢ p → H r₀ j v → H r j v
+
+-- the row r has the words of the lanes below lane p of the row s, each rotated by m times its lane's number
+pub record LanesRotated {R : Type 0} (H : R → ℕ → ℕ → Type 0) (m : ℕ) (s : List ℕ) (p : ℕ) (r : R) : Type 0 where
+  pub below : (i : ℕ) → i < 384 → i % 32 < p → H r i (rotated (m * (i % 32) % 110) (word_at s i))
 
 -- a row of words, each of lane p rotated by m p places
 unfoldable pub rotated_row : ℕ → List ℕ → List ℕ
