@@ -1,5 +1,5 @@
 // The shuffle: the information of each word of a row rotated, that of lane p by 20 p places, and rotated back.
-// A word is two numbers: hi has bits 0 to 61 in its 62 low bits, lo has bits 62 to 125. Word 32 k + p of a row is word k of lane p.
+// Word 32 k + p of a row is word k of lane p.
 #![tactic(auto)]
 
 ghost use Rattle.std.specs.Prelude.{◌≡◌, ℕ, ◌<◌, ◌%◌, ◌^◌};
@@ -7,12 +7,7 @@ ghost use Rattle.bits.specs.definitions.Words.{word_of, word_bytes};
 ghost use Rattle.shuffle.specs.definitions.Shuffle.{shuffled, unshuffled};
 ghost use Rattle.shuffle.specs.private.Rotation.{crossed, rotated_first, rotated, HoldsNumbers, HoldsBytes, WordPut, LaneRotated, LanesRotated};
 
-// A word in two numbers.
-#[derive(Clone, Copy)]
-struct Word {
-    hi: u64,
-    lo: u64,
-}
+use bits::Word;
 
 // Two halves of a word's information, 55 bits each.
 #[derive(Clone, Copy)]
@@ -65,11 +60,12 @@ fn rotate(word: Word, n: u64) -> Word
     }
 }
 
-// What has a row's 384 words.
+// A row of 384 words, whatever it keeps them in.
 trait Row {
     // Word i of the row is w.
     ghost holds: { Self → ℕ → ℕ → Type 0 };
 
+    // Word i of the row becomes a word; the others stay.
     fn put_word(&mut self, i: usize, word: Word)
         requires { (i < 384) × (word.hi < 2 ^ 62) }
         ensures { WordPut holds i (word_of word.hi word.lo) self.old self.new };
