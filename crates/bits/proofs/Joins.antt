@@ -2,7 +2,7 @@
 -- Assumes nothing.
 use mathlib.Core.Path.{◌≡◌, refl, sym, ap, ◌∙◌}
 use mathlib.Core.Logic.{◌⊎◌, inl, inr}
-use mathlib.Core.List.{List, ◌++◌}
+use mathlib.Core.List.{List, [], ◌∷◌, ◌++◌}
 use Prim.Native.Nat.{ℕ, zero, suc, ◌+◌, ◌-◌, ◌*◌, ◌/◌, ◌%◌, ◌^◌, ◌≤◌, ◌<◌}
 use native.Mathlib.Nat.{mod-lt, lt_of_lt_of_le, mul-suc, pow-suc}
 use native.Mathlib.Decide.{dec_lt}
@@ -119,13 +119,23 @@ pub loaded_none : (s : List ℕ) (o : ℕ) → length s < o + 8 → 0 ≡ loaded
 unfolding loaded_at
 loaded_none s o h = rw (lt-ltb (length s) (o + 8) h)
 
--- eight bytes copied out of s from place o on, as a number
-pub load_eight : (s b : List ℕ) (o : ℕ) → AllBytes s → o + 8 ≤ length s → b ≡ take (o + 8 - o) (drop o s) → from_be_bytes w64 b ≡ loaded_at s o
-load_eight s b o B h e = bytes_value b ∙ value_cong 256 8 _ _ digit ∙ bytes_field s B o 8 ∙ sym (loaded_is s o h)
-  where
-    digit : (i : ℕ) → i < 8 → get_or b i 0 ≡ get_or s (o + i) 0
-    digit i h =
-        ap (λ (l : List ℕ). get_or l i 0) e ∙ get_or-take (o + 8 - o) (drop o s) i 0 (omega arith) ∙ get_or-drop o s i 0
+-- the eight bytes of s from place o on, each read by its place, as a number
+module _ (s : List ℕ) (o : ℕ) where
+  -- with the first at place k
+  abbrev pub listed : ℕ → List ℕ
+  listed k =
+      get_or s k 0 ∷ get_or s (o + 1) 0 ∷ get_or s (o + 2) 0 ∷ get_or s (o + 3) 0 ∷ get_or s (o + 4) 0 ∷ get_or s (o + 5) 0 ∷ get_or s (o + 6) 0
+      ∷ get_or s (o + 7) 0 ∷ []
+
+  pub load_eight : AllBytes s → o + 8 ≤ length s → from_be_bytes w64 (listed o) ≡ loaded_at s o
+  unfolding value
+  load_eight B h = ap (λ (k : ℕ). from_be_bytes w64 (listed k)) first ∙ bytes_value (listed (o + 0)) ∙ all ∙ sym (loaded_is s o h)
+    where
+      first : o ≡ o + 0
+      first = omega arith
+
+      all : value 256 8 (λ i. get_or s (o + i) 0) ≡ field_at s (8 * o) 64
+      all = bytes_field s B o 8
 
 -- what was put is known
 put_unique : {n v o : ℕ} {d l k : List ℕ} → Put n v o d l → Put n v o d k → l ≡ k

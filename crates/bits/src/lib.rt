@@ -63,9 +63,16 @@ pub fn load(s: &[u8], o: usize) -> u64
     if s.len() < 8 || s.len() - 8 < o {
         return 0;
     }
-    let mut bytes = [0u8; 8];
-    bytes.copy_from_slice(&s[o..o + 8]);
-    u64::from_be_bytes(bytes)
+    u64::from_be_bytes([
+        s[o],
+        s[o + 1],
+        s[o + 2],
+        s[o + 3],
+        s[o + 4],
+        s[o + 5],
+        s[o + 6],
+        s[o + 7],
+    ])
 }
 
 // v as the eight bytes from byte o on. Where there are not eight, nothing changes.

@@ -8,6 +8,4 @@ pub returns-then-s-lt8 : goal.returns-then-s-lt8
 returns-then-s-lt8 c = loaded_none _ _ (omega arith)
 
 pub returns : goal.returns
-returns c =
-    c.from_be_bytes.ensures
-    ∙ load_eight c.args.s.now _ c.args.o (record { byte = λ m. omega (arith, c.type_inv.s m) }) (omega arith) c.copy_from_slice.ensures.after
+returns c = c.from_be_bytes.ensures ∙ load_eight c.args.s.now c.args.o (record { byte = λ m. omega (arith, c.type_inv.s m) }) (omega arith)
