@@ -9,18 +9,18 @@ use native.Mathlib.Numerals.{add-one}
 use lib.Arith.{digits_div, digits_mod}
 use native.Mathlib.Omega.{arith}
 use lib.Dec.{eqb, ltb, lit<}
-use lib.ListN.{get_or, length, take, drop, get_or-append}
-use lib.Seq.{get_or-append-add}
+use lib.ListN.{get_or, length, take, drop, length-take, length-drop, get_or-append}
+use lib.Seq.{get_or-append-add, get_or-take, get_or-drop}
 use lib.Bits.{bit_and, bit_xor, and_le_l, xor_lt, xor_shr, xor_mod}
 use Rattle.bits.specs.definitions.Bits.{tabulate, number, bit_of, bit_at, bytes, AllBytes}
-use Rattle.bits.proofs.Tabulate.{tabulate_cong, get_d_tabulate}
+use Rattle.bits.proofs.Tabulate.{tabulate_cong, tabulate_append, is_tabulate}
 use Rattle.bits.proofs.Filling.{Filling, filling_put}
 use Rattle.bits.proofs.Value.{value_cong, bit_lt, bit_and_lem, number_bits}
 use Rattle.bits.proofs.Fields.{bit_at_lt, bit_at_byte, bytes_bit, bytes_cong, bytes_bytes}
-use Rattle.lanes.specs.definitions.Permutation.{Lanes, Places, named, partner, permuted, lanes_of, lane_bytes}
+use Rattle.lanes.specs.definitions.Permutation.{Lanes, Places, partner, permuted, lanes_of, lane_bytes}
 use Rattle.lanes.specs.definitions.Interleaver.{Rows, stored, rows_out, row_at, store_bit, store_next}
 use Rattle.lanes.specs.statements.Permutation.{PermutedTwice}
-use Rattle.lanes.specs.private.Blocks.{merged_byte, IsMasks, block_start, block_byte, out_from, kept_from}
+use Rattle.lanes.specs.private.Blocks.{FillStore, merged_byte, IsMaskRow, block_start, block_byte, out_from, kept_from}
 use Rattle.lanes.proofs.Starts.{frame_start, store_start}
 
 -- ---- the permutation
@@ -95,25 +95,22 @@ symbol_place : (b m : ℕ) → m < 40 → m / 10 ≡ (40 * b + m) / 10 % 4
 symbol_place b m h = omega arith
 
 -- byte i of the permuted frame
-abbrev pub permuted_byte : ℕ → List ℕ → ℕ → ℕ
-permuted_byte e x i = number 8 (λ k. permuted (named e) (lanes_of x) ((8 * i + k) / 1320) ((8 * i + k) % 1320))
+abbrev pub permuted_byte : Places → List ℕ → ℕ → ℕ
+permuted_byte ex x i = number 8 (λ k. permuted ex (lanes_of x) ((8 * i + k) / 1320) ((8 * i + k) % 1320))
 
 -- it is the byte that stands there, merged with its partner's
-permuted_byte_lem : (t : List ℕ) → IsMasks t → (e i : ℕ) (x : List ℕ) → AllBytes x → e < 16 → i < 5280
-    → merged_byte (get_or x i 0) (get_or x ((i + 2640) % 5280) 0) (get_or t (5 * e + i % 5) 0) ≡ permuted_byte e x i
+permuted_byte_lem : (ex : Places) (i j mask : ℕ) (x : List ℕ) → AllBytes x → i < 5280 → j ≡ (i + 2640) % 5280
+    → ((k : ℕ) → k < 8 → eqb (bit_of 8 mask k) 1 ≡ ex ((8 * (i % 5) + k) / 10)) → merged_byte (get_or x i 0) (get_or x j 0) mask ≡ permuted_byte ex x i
 unfolding permuted
-permuted_byte_lem t T e i x X he hi =
-    by_bits (merged_byte own other mask) _ (merged_lt own other mask (X.byte i) (X.byte ((i + 2640) % 5280))) bit
-    ∙ sym (lane_byte_lem 165 five_165 (lit< tt) (permuted (named e) (lanes_of x)) i)
+permuted_byte_lem ex i j mask x X hi hj is =
+    by_bits (merged_byte own other mask) _ (merged_lt own other mask (X.byte i) (X.byte j)) bit
+    ∙ sym (lane_byte_lem 165 five_165 (lit< tt) (permuted ex (lanes_of x)) i)
   where
     own : ℕ
     own = get_or x i 0
 
     other : ℕ
-    other = get_or x ((i + 2640) % 5280) 0
-
-    mask : ℕ
-    mask = get_or t (5 * e + i % 5) 0
+    other = get_or x j 0
 
     p : ℕ
     p = i / 165
@@ -124,15 +121,15 @@ permuted_byte_lem t T e i x X he hi =
     c : ℕ
     c = i % 5
 
-    bit : (k : ℕ) → k < 8 → bit_of 8 (merged_byte own other mask) k ≡ permuted (named e) (lanes_of x) p (40 * b + (8 * c + k))
+    bit : (k : ℕ) → k < 8 → bit_of 8 (merged_byte own other mask) k ≡ permuted ex (lanes_of x) p (40 * b + (8 * c + k))
     bit k h =
         let r : i % 165 % 5 ≡ c = five_165 i in
         let here : 8 * i + k ≡ 1320 * p + (40 * b + (8 * c + k)) = omega arith in
-        let place : (i + 2640) % 5280 ≡ 165 * partner p + i % 165 = omega arith in
-        let there : 8 * ((i + 2640) % 5280) + k ≡ 1320 * partner p + (40 * b + (8 * c + k)) = omega arith in
+        let place : j ≡ 165 * partner p + i % 165 = omega arith in
+        let there : 8 * j + k ≡ 1320 * partner p + (40 * b + (8 * c + k)) = omega arith in
         merged_bit own other mask k
-        ∙ (λ z. cond ((T.entry e c k he (omega arith) h ∙ ap (named e) (symbol_place b (8 * c + k) (omega arith))) z)
-        ((sym (bit_at_byte x ((i + 2640) % 5280) k h) ∙ ap (bit_at x) there) z)
+        ∙ (λ z. cond ((is k h ∙ ap ex (symbol_place b (8 * c + k) (omega arith))) z)
+        ((sym (bit_at_byte x j k h) ∙ ap (bit_at x) there) z)
         ((sym (bit_at_byte x i k h) ∙ ap (bit_at x) here) z))
 
 -- ---- whole blocks
@@ -315,72 +312,83 @@ permuted_twice ex x p i h = go (ex (i / 10 % 4))
     go true = ap (λ (q : ℕ). x q i) back
     go false = refl
 
--- the permutation depends on a frame's bits alone, and on the four places that a number names
-pub permuted_cong : (ex ex' : Places) (x y : Lanes) → ((s : ℕ) → s < 4 → ex s ≡ ex' s) → ((p i : ℕ) → p < 32 → i < 1320 → x p i ≡ y p i)
-    → lane_bytes (permuted ex x) ≡ lane_bytes (permuted ex' y)
+-- the permutation depends on a frame's bits alone
+pub permuted_cong : (ex : Places) (x y : Lanes) → ((p i : ℕ) → p < 32 → i < 1320 → x p i ≡ y p i)
+    → lane_bytes (permuted ex x) ≡ lane_bytes (permuted ex y)
 unfolding lane_bytes permuted
-permuted_cong ex ex' x y places same =
+permuted_cong ex x y same =
     bytes_cong 5280 _ _
-    (λ j h. λ z. cond (places (j % 1320 / 10 % 4) (omega arith) z) (same (partner (j / 1320)) (j % 1320) (omega arith) (omega arith) z)
+    (λ j h. λ z. cond (ex (j % 1320 / 10 % 4)) (same (partner (j / 1320)) (j % 1320) (omega arith) (omega arith) z)
     (same (j / 1320) (j % 1320) (omega arith) (omega arith) z))
-
-pub named_16 : (x s : ℕ) → s < 4 → named (x % 16) s ≡ named x s
-unfolding named
-named_16 x s h = ap (λ (b : ℕ). eqb b 1) (go s h)
-  where
-    go : (s : ℕ) → s < 4 → x % 16 / 2 ^ s % 2 ≡ x / 2 ^ s % 2
-    go zero h = omega arith
-    go (suc zero) h = omega arith
-    go (suc (suc zero)) h = omega arith
-    go (suc (suc (suc zero))) h = omega arith
-    go (suc (suc (suc (suc s)))) h = absurd (omega arith)
 
 -- ---- the loops that store blocks
 
--- byte i of what is merged from byte here on with what stands from byte there on
-abbrev pub merged_at : (row x : List ℕ) (here there i : ℕ) → ℕ
-merged_at row x here there i = merged_byte (get_or x (here + i) 0) (get_or x (there + i) 0) (get_or row i 0)
-
 -- byte k of sixteen blocks of the permuted frame
-pub permuted_at : (t : List ℕ) → IsMasks t → (e b : ℕ) (row x : List ℕ) → AllBytes x → e < 16 → b < 66 → row ≡ tabulate 80 (λ i. get_or t (5 * e + i % 5) 0)
-    → (k : ℕ) → k < 80 → merged_at row x (80 * b) ((80 * b + 2640) % 5280) k ≡ permuted_byte e x (80 * b + k)
-permuted_at t T e b row x X he hb r k hk = at (80 * b + k) ((80 * b + 2640) % 5280 + k) (omega arith) (omega arith) (omega arith)
-  where
-    at : (i j : ℕ) → i < 5280 → j ≡ (i + 2640) % 5280 → k % 5 ≡ i % 5 → merged_byte (get_or x i 0) (get_or x j 0) (get_or row k 0) ≡ permuted_byte e x i
-    at i j h o c =
-        ap₂ (merged_byte (get_or x i 0)) (ap (λ (n : ℕ). get_or x n 0) o)
-        (ap (λ (l : List ℕ). get_or l k 0) r ∙ get_d_tabulate 80 (λ i. get_or t (5 * e + i % 5) 0) k 0 hk ∙ ap (λ (n : ℕ). get_or t (5 * e + n) 0) c)
-        ∙ permuted_byte_lem t T e i x X he h
+pub permuted_at : (ex : Places) (b there e f : ℕ) (row x : List ℕ) → AllBytes x → IsMaskRow ex row → b < 66
+    → (there ≡ (80 * b + 2640) % 5280) × (e ≡ 80 * b + 80) × (f ≡ there + 80)
+    → (k : ℕ) → k < 80 → merged_byte (get_or (take (e - 80 * b) (drop (80 * b) x)) k 0) (get_or (take (f - there) (drop there x)) k 0) (get_or row k 0)
+    ≡ permuted_byte ex x (80 * b + k)
+permuted_at ex b there e f row x X M hb is k hk =
+    let own = get_or-take (e - 80 * b) (drop (80 * b) x) k 0 (omega arith) ∙ get_or-drop (80 * b) x k 0 in
+    let partners = get_or-take (f - there) (drop there x) k 0 (omega arith) ∙ get_or-drop there x k 0 in
+    let c : k % 5 ≡ (80 * b + k) % 5 = omega arith in
+    (λ z. merged_byte (own z) (partners z) (get_or row k 0))
+    ∙ permuted_byte_lem ex (80 * b + k) (there + k) (get_or row k 0) x X (omega arith) (omega arith)
+    (λ q hq. M.bit k q hk hq ∙ ap (λ (n : ℕ). ex ((8 * n + q) / 10)) c)
+
+-- a step that lends the part of the m elements from i on
+part_step : (f : ℕ → ℕ) {n i : ℕ} {out₀ out : List ℕ} (e m : ℕ) (part : List ℕ) (w : ℕ → ℕ) → Filling f n out₀ out i → e ≡ i + m → e ≤ n
+    → part ≡ tabulate m w → ((k : ℕ) → k < m → w k ≡ f (i + k)) → Filling f n out₀ (take i out ++ (part ++ drop (e - i) (drop i out))) e
+part_step f {n} {i} {out₀} {out} e m part w F q le is agree =
+    let size : m ≡ length (take (e - i) (drop i out)) = simp (length-take, length-drop) (omega (arith, F.long)) in
+    filling_put f e part (λ _. w) F (omega arith) le (is ∙ ap (λ (l : ℕ). tabulate l w) size) (λ k h. agree k (omega arith))
 
 -- byte i of the blocks of lane p whose numbers are from 0, from 1, ..
 abbrev pub moved_byte : List ℕ → (ℕ → ℕ) → ℕ → ℕ → ℕ
 moved_byte z from p i = block_byte z p (from (i / 5)) (i % 5)
 
+-- a block that is read
+pub block_read : (z : List ℕ) (v : ℕ) → v + 5 ≤ length z → take 5 (drop v z) ≡ tabulate 5 (λ c. get_or z (v + c) 0)
+block_read z v room =
+    is_tabulate 0 (take 5 (drop v z)) 5 _ (simp (length-take, length-drop) (omega arith))
+    (λ c h. get_or-take 5 (drop v z) c 0 h ∙ get_or-drop v z c 0)
+
 -- a step that lends the part of block b, where the block that begins at v is stored
-pub block_step : (z : List ℕ) (from : ℕ → ℕ) (p b v e : ℕ) (part : List ℕ) {n i : ℕ} {out₀ out : List ℕ} → v ≡ block_start p (from b)
-    → Filling (moved_byte z from p) n out₀ out i → (i ≡ 5 * b) × (e ≡ i + 5) × (e ≤ n)
-    → part ≡ tabulate (length (take (e - i) (drop i out))) (λ c. get_or z (v + c) 0)
-    → Filling (moved_byte z from p) n out₀ (take i out ++ (part ++ drop (e - i) (drop i out))) e
+pub block_step : (z : List ℕ) (from : ℕ → ℕ) (p b v e : ℕ) (part : List ℕ) {n i : ℕ} {out₀ out : List ℕ} → (v ≡ block_start p (from b)) × (v + 5 ≤ length z)
+    → Filling (moved_byte z from p) n out₀ out i → (i ≡ 5 * b) × (e ≡ i + 5) × (e ≤ n) → part ≡ take 5 (drop v z)
+    → Filling (moved_byte z from p) n out₀ (take i out ++ (part ++ drop (e - i) (drop i out))) (5 * (b + 1))
 unfolding block_byte
-block_step z from p b v e part {n} {i} q F h is = filling_put (moved_byte z from p) e part (λ m c. get_or z (v + c) 0) F (omega arith) h.2 is agree
+block_step z from p b v e part {n} {i} q F h is =
+    subst (Filling (moved_byte z from p) n _ _) (omega arith)
+    (part_step (moved_byte z from p) e 5 part (λ c. get_or z (v + c) 0) F (omega arith) h.2 (is ∙ block_read z v q.1) agree)
   where
-    agree : (k : ℕ) → k < e - i → get_or z (v + k) 0 ≡ get_or z (block_start p (from ((i + k) / 5)) + (i + k) % 5) 0
+    agree : (k : ℕ) → k < 5 → get_or z (v + k) 0 ≡ get_or z (block_start p (from ((i + k) / 5)) + (i + k) % 5) 0
     agree k l =
         let d : b ≡ (i + k) / 5 = omega arith in
         let r : k ≡ (i + k) % 5 = omega arith in
-        (λ w. get_or z (q w + k) 0) ∙ (λ w. get_or z (block_start p (from (d w)) + r w) 0)
+        (λ w. get_or z (q.0 w + k) 0) ∙ (λ w. get_or z (block_start p (from (d w)) + r w) 0)
 
--- a step that lends the part of d blocks from block s on
-pub row_step : (z : List ℕ) (from : ℕ → ℕ) (p s d e : ℕ) (part : List ℕ) {n i : ℕ} {out₀ out : List ℕ} → Filling (moved_byte z from p) n out₀ out i
-    → (i ≡ 5 * s) × (e ≡ i + 5 * d) × (e ≤ n) → part ≡ tabulate (length (take (e - i) (drop i out))) (moved_byte z (λ j. from (s + j)) p)
-    → Filling (moved_byte z from p) n out₀ (take i out ++ (part ++ drop (e - i) (drop i out))) e
-row_step z from p s d e part {n} {i} F h is = filling_put (moved_byte z from p) e part (λ m. moved_byte z (λ j. from (s + j)) p) F (omega arith) h.2 is agree
+-- the two rows that fill a store, one behind the other
+pub rows_joined : {R : Rows} {r : ℕ} (z : List ℕ) (p : ℕ) {s t : List ℕ} → FillStore R r
+    → s ≡ tabulate (5 * R.depth r) (moved_byte z (λ j. kept_from R (R.start r + j)) p)
+    → t ≡ tabulate (5 * R.depth (r + 1)) (moved_byte z (λ j. kept_from R (R.start (r + 1) + j)) p)
+    → s ++ t ≡ tabulate 90 (moved_byte z (kept_from R) p)
+rows_joined {R} {r} z p F es et =
+    ap₂ ◌++◌ (es ∙ tabulate_cong m _ f (λ i _. at i i (R.start r) (omega arith) (omega arith)))
+    (et ∙ tabulate_cong n _ (λ i. f (m + i)) (λ i _. at i (m + i) (R.start (r + 1)) (omega arith) (omega arith)))
+    ∙ sym (tabulate_append m n f) ∙ ap (λ (k : ℕ). tabulate k f) (omega arith)
   where
-    agree : (k : ℕ) → k < e - i → moved_byte z (λ j. from (s + j)) p k ≡ moved_byte z from p (i + k)
-    agree k l =
-        let b : s + k / 5 ≡ (i + k) / 5 = omega arith in
-        let c : k % 5 ≡ (i + k) % 5 = omega arith in
-        λ w. block_byte z p (from (b w)) (c w)
+    f : ℕ → ℕ
+    f = moved_byte z (kept_from R) p
+
+    m : ℕ
+    m = 5 * R.depth r
+
+    n : ℕ
+    n = 5 * R.depth (r + 1)
+
+    at : (i k s : ℕ) → s + i / 5 ≡ k / 5 → i % 5 ≡ k % 5 → block_byte z p (kept_from R (s + i / 5)) (i % 5) ≡ f k
+    at i k s d c = λ w. block_byte z p (kept_from R (d w)) (c w)
 
 -- the same bytes counted over the lanes: byte k of lane p of L bytes
 pub lane_block : (z : List ℕ) (from : ℕ → ℕ) (L p k : ℕ) → ((i : ℕ) → i % L % 5 ≡ i % 5) → k < L
@@ -394,8 +402,8 @@ lane_block z from L p k five h =
 
 -- a step that lends the part of number p of L bytes: a lane, or sixteen blocks
 pub lane_step : (f : ℕ → ℕ) {n : ℕ} {out₀ out : List ℕ} (L p e : ℕ) (part : List ℕ) (w : ℕ → ℕ) → Filling f n out₀ out (L * p) → e ≡ L * p + L → e ≤ n
-    → part ≡ tabulate (length (take (e - L * p) (drop (L * p) out))) w → ((k : ℕ) → k < L → w k ≡ f (L * p + k))
+    → part ≡ tabulate L w → ((k : ℕ) → k < L → w k ≡ f (L * p + k))
     → Filling f n out₀ (take (L * p) out ++ (part ++ drop (e - L * p) (drop (L * p) out))) (L * (p + 1))
 lane_step f {n} {out₀} L p e part w F q le is agree =
     let next : e ≡ L * (p + 1) = q ∙ sym (rw (add-one, mul-suc)) in
-    subst (Filling f n out₀ _) next (filling_put f e part (λ m. w) F (omega arith) le is (λ k h. agree k (omega arith)))
+    subst (Filling f n out₀ _) next (part_step f e L part w F q le is agree)

@@ -10,6 +10,7 @@ use lib.Dec.{ltb}
 use borrow.Author.Tests.{lt-ltb, le-ltb, ltb-true, ltb-false}
 use Rattle.lanes.specs.definitions.Interleaver.{Rows, sender, receiver, row_at}
 use Rattle.lanes.specs.definitions.Stream.{delayed}
+use Rattle.lanes.specs.private.Blocks.{FillStore}
 
 pub lt_or_le : (m n : ℕ) → (m < n) ⊎ (n ≤ m)
 lt_or_le m n = go (ltb m n) refl
@@ -74,31 +75,26 @@ module _ (D m : ℕ) (x s a : ℕ → ℕ) (held : Held D m x s) (now : (k : ℕ
 unfoldable pub Apart : Rows → Type 0
 Apart R = (r j : ℕ) → r < 3 → j < R.depth r → (R.start r + j < 18) × (row_at R (R.start r + j) ≡ r)
 
-pub sender_apart : Apart sender
+-- so do two rows that fill it, the third holding nothing
+pub fills_apart : {R : Rows} {r : ℕ} → FillStore R r → Apart R
 unfolding Apart
-sender_apart zero j hr hj = absurd (omega arith)
-sender_apart (suc zero) j hr hj =
-    let l : 0 ≤ j = omega arith in
-    let h : j < 6 = omega arith in
-    let e : 6 * (1 - 1) + j ≡ j = omega arith in
-    (omega arith, rw (e, le-ltb j 0 l, lt-ltb j 6 h))
-sender_apart (suc (suc zero)) j hr hj =
-    let l : 0 ≤ 6 * (2 - 1) + j = omega arith in
-    let h : 6 ≤ 6 * (2 - 1) + j = omega arith in
-    (omega arith, rw (le-ltb (6 * (2 - 1) + j) 0 l, le-ltb (6 * (2 - 1) + j) 6 h))
-sender_apart (suc (suc (suc r))) j hr hj = absurd (omega arith)
+fills_apart {R} {r = zero} F zero j hr hj = (omega arith, rw (lt-ltb (R.start 0 + j) (R.start 1) (omega arith)))
+fills_apart {R} {r = zero} F (suc zero) j hr hj =
+    (omega arith, rw (le-ltb (R.start 1 + j) (R.start 1) (omega arith), lt-ltb (R.start 1 + j) (R.start 1 + R.depth 1) (omega arith)))
+fills_apart {R} {r = zero} F (suc (suc zero)) j hr hj = absurd (omega arith)
+fills_apart {R} {r = suc zero} F zero j hr hj = absurd (omega arith)
+fills_apart {R} {r = suc zero} F (suc zero) j hr hj =
+    (omega arith, rw (le-ltb (R.start 1 + j) (R.start 1) (omega arith), lt-ltb (R.start 1 + j) (R.start 1 + R.depth 1) (omega arith)))
+fills_apart {R} {r = suc zero} F (suc (suc zero)) j hr hj =
+    (omega arith, rw (le-ltb (R.start 2 + j) (R.start 1) (omega arith), le-ltb (R.start 2 + j) (R.start 1 + R.depth 1) (omega arith)))
+fills_apart {R} {r = suc (suc r)} F q j hr hj = absurd (omega arith)
+fills_apart {R} {r} F (suc (suc (suc q))) j hr hj = absurd (omega arith)
+
+pub sender_apart : Apart sender
+sender_apart = fills_apart {r = 1} (record { row = omega arith; first = refl; second = refl; whole = refl; other = refl })
 
 pub receiver_apart : Apart receiver
-unfolding Apart
-receiver_apart zero j hr hj =
-    let h : 12 * 0 + j < 12 = omega arith in
-    (omega arith, rw (lt-ltb (12 * 0 + j) 12 h))
-receiver_apart (suc zero) j hr hj =
-    let l : 12 ≤ 12 * 1 + j = omega arith in
-    let h : 12 * 1 + j < 18 = omega arith in
-    (omega arith, rw (le-ltb (12 * 1 + j) 12 l, lt-ltb (12 * 1 + j) 18 h))
-receiver_apart (suc (suc zero)) j hr hj = absurd (omega arith)
-receiver_apart (suc (suc (suc r))) j hr hj = absurd (omega arith)
+receiver_apart = fills_apart {r = 0} (record { row = omega arith; first = refl; second = refl; whole = refl; other = refl })
 
 -- one element of each block of a lane, over a run of n frames: the frames' blocks in and out, and the store's
 pub record Run (R : Rows) (n : ℕ) (ins outs stores : ℕ → ℕ → ℕ) : Type 0 where

@@ -1,14 +1,14 @@
 -- Which blocks of a lane, of a frame with its store behind it, come out of a row and are kept by a row, and where they begin.
 -- Assumes nothing.
 use mathlib.Core.Path.{◌≡◌}
-use mathlib.Core.Bool.{Bool, true, false, cond}
+use mathlib.Core.Bool.{cond}
 use Prim.Native.Nat.{ℕ, suc, ◌+◌, ◌*◌, ◌-◌, ◌/◌, ◌%◌, ◌≤◌, ◌<◌}
 use native.Mathlib.Omega.{arith}
 use lib.Dec.{ltb}
 use borrow.Author.Tests.{lt-ltb, le-ltb}
 use Rattle.lanes.specs.definitions.Interleaver.{Rows, row_at}
-use Rattle.lanes.specs.private.Blocks.{rows_of, block_start, out_from, kept_from}
-use Rattle.lanes.proofs.Rows.{Apart, sender_apart, receiver_apart}
+use Rattle.lanes.specs.private.Blocks.{block_start, out_from, kept_from}
+use Rattle.lanes.proofs.Rows.{Apart}
 
 -- one of the frame's 33 blocks, and one of the store's
 pub frame_start : (p b : ℕ) → b < 33 → block_start p b ≡ 165 * p + 5 * b
@@ -31,7 +31,7 @@ module _ (R : Rows) (r t : ℕ) (hr : r < 3) where
       let f : (3 * t + r) % 3 ≡ r = omega arith in
       λ z. cond (ltb (e z) (R.depth (f z))) (33 + (R.start (f z) + (R.depth (f z) - suc (e z)))) (3 * (e z - R.depth (f z)) + f z)
 
-  pub out_stored : {s d : ℕ} → s ≡ R.start r → d ≡ R.depth r → t < d → 33 + (s + (d - (t + 1))) ≡ out_from R (3 * t + r)
+  pub out_stored : {s d : ℕ} → s ≡ R.start r → d ≡ R.depth r → t < d → 33 + (s + (d - 1 - t)) ≡ out_from R (3 * t + r)
   out_stored {s} {d} es ed h = rw (out_at, ← ed, ← es, lt-ltb t d h) (omega arith)
 
   pub out_entered : {d : ℕ} → d ≡ R.depth r → d ≤ t → 3 * (t - d) + r ≡ out_from R (3 * t + r)
@@ -51,14 +51,3 @@ module _ (R : Rows) (apart : Apart R) (r q : ℕ) (hr : r < 3) (hq : q < R.depth
 
   pub kept_stored : {s : ℕ} → s ≡ R.start r → 11 ≤ q → 33 + (s + (q - 11)) ≡ kept_from R (R.start r + q)
   kept_stored es h = rw (kept_at, le-ltb q 11 h, es)
-
--- ---- the rows of a direction
-
-pub rows_apart : (sending : Bool) → Apart (rows_of sending)
-rows_apart true = sender_apart
-rows_apart false = receiver_apart
-
--- a place of a row lies within the store
-pub row_fits : (sending : Bool) (r j : ℕ) → r < 3 → j < (rows_of sending).depth r → (rows_of sending).start r + j < 18
-unfolding Apart
-row_fits sending r j hr hj = (rows_apart sending r j hr hj).0

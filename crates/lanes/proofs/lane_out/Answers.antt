@@ -1,13 +1,10 @@
--- `lanes::lane_out` meets its contract: two rows, each from the store and then from the frame. Assumes nothing.
-use Prim.Native.Nat.{◌+◌, zero-le}
-use Rattle.lanes.specs.private.Blocks.{rows_of}
-use Rattle.lanes.proofs.Turns.{turns_then, waited_within, lane_done}
+-- `lanes::lane_out` meets its contract: two rows come out, and the third holds nothing. Assumes nothing.
+use mathlib.Core.Path.{sym, subst}
+use Rattle.lanes.specs.private.Blocks.{FillStore}
+use Rattle.lanes.proofs.Turns.{lane_done}
 use Rattle.lanes.proofs.lane_out.Goals as goal
 
 pub returns : goal.returns
-returns c =
-    let R = rows_of c.args.sending in
-    let r = c.first_kept-r.result in
-    lane_done c.first_kept-r.ensures c.requires.z_len.1 c.requires.z_len.2 c.requires.out_value
-    (turns_then c.row_stored.ensures c.row_entered.ensures (zero-le, (waited_within (R.depth r)).0))
-    (turns_then c.row_stored-2.ensures c.row_entered-2.ensures (zero-le, (waited_within (R.depth (r + 1))).0))
+returns g c =
+    let fills = subst (FillStore g.S.Side.rows) (sym c.FIRST_KEPT-r.ensures) g.met.S.Side.fills in
+    lane_done fills c.requires.within.0 c.requires.within.1 c.requires.own c.row_out.ensures c.row_out-2.ensures

@@ -2,13 +2,15 @@
 use mathlib.Core.Path.{refl}
 use native.Mathlib.Omega.{arith}
 use Rattle.bits.proofs.Filling.{filling_start, filling_step, filling_done}
+use Rattle.lanes.specs.private.Blocks.{merged_byte}
 use Rattle.lanes.proofs.merge_blocks.Goals as goal
 
 pub loop-i-init : goal.loop-i-init
-loop-i-init c = filling_start _ refl
+loop-i-init c = filling_start _ c.requires.2
 
 pub loop-i-preserved : goal.loop-i-preserved
-loop-i-preserved c = filling_step _ _ c.loop-i.invariant (omega arith) c.merge.ensures
+unfolding merged_byte
+loop-i-preserved c = filling_step _ _ c.loop-i.invariant (omega arith) refl
 
 pub returns : goal.returns
 returns c = filling_done _ c.loop-i.invariant (omega arith)

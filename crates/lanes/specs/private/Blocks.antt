@@ -1,15 +1,11 @@
 -- What the code's own functions say of whole blocks: a lane's frame and its store are 51 blocks of five bytes, and a stage moves them. No promise to a
 -- caller rests on a definition here.
 -- Assumes nothing.
-use Rattle.std.specs.Prelude.{◌≡◌, ◌≢◌, Bool, cond, List, ℕ, suc, ◌+◌, ◌*◌, ◌-◌, ◌/◌, ◌%◌, ◌<◌, ◌≤◌, eqb, ltb, length, get_or}
+use Rattle.std.specs.Prelude.{◌≡◌, cond, List, ℕ, suc, ◌+◌, ◌*◌, ◌-◌, ◌/◌, ◌%◌, ◌<◌, eqb, ltb, length, get_or}
 use Rattle.std.specs.Int.Bits.{bit_and, bit_xor}
 use Rattle.bits.specs.definitions.Bits.{bit_of}
-use Rattle.lanes.specs.definitions.Permutation.{named}
-use Rattle.lanes.specs.definitions.Interleaver.{Rows, sender, receiver, row_at}
-
--- the rows of a direction
-abbrev pub rows_of : Bool → Rows
-rows_of sending = cond sending sender receiver
+use Rattle.lanes.specs.definitions.Permutation.{Places}
+use Rattle.lanes.specs.definitions.Interleaver.{Rows, row_at}
 
 -- rows r and r + 1 lie in a lane's store one after the other, and fill it; the other row holds nothing
 pub record FillStore (R : Rows) (r : ℕ) : Type 0 where
@@ -17,7 +13,7 @@ pub record FillStore (R : Rows) (r : ℕ) : Type 0 where
   pub first : R.start r ≡ 0
   pub second : R.start (r + 1) ≡ R.depth r
   pub whole : R.depth r + R.depth (r + 1) ≡ 18
-  pub other : (q : ℕ) → q < 3 → q ≢ r → q ≢ r + 1 → R.depth q ≡ 0
+  pub other : R.depth ((r + 2) % 3) ≡ 0
 
 -- where block b of lane p begins in a frame with its store behind it: the frame has 33 blocks a lane, and the store 18
 unfoldable pub block_start : ℕ → ℕ → ℕ
@@ -34,15 +30,11 @@ out_from R b = cond (ltb (b / 3) (d)) (33 + (R.start (b % 3) + (d - suc (b / 3))
     d : ℕ
     d = R.depth (b % 3)
 
--- how many of the eleven blocks that come out of a row as deep as d were in its store
-abbrev pub waited_of : ℕ → ℕ
-waited_of d = cond (ltb d 11) d 11
-
--- the 165 bytes of lane p are those of o₀, but for the blocks that come out of row r at turns m to n - 1, of z, a frame with its store behind it
-pub record TurnsOut (R : Rows) (z : List ℕ) (p r m n : ℕ) (o₀ o : List ℕ) : Type 0 where
+-- the 165 bytes of lane p are those of o₀, but for the blocks that come out of row r at its first n turns, of z, a frame with its store behind it
+pub record TurnsOut (R : Rows) (z : List ℕ) (p r n : ℕ) (o₀ o : List ℕ) : Type 0 where
   pub long : length o ≡ length o₀
-  pub here : (i : ℕ) → i < 165 → i / 5 % 3 ≡ r → m ≤ i / 15 → i / 15 < n → get_or o i 0 ≡ block_byte z p (out_from R (i / 5)) (i % 5)
-  pub there : (i : ℕ) → (i / 5 % 3 ≡ r → m ≤ i / 15 → i / 15 < n → ⊥) → get_or o i 0 ≡ get_or o₀ i 0
+  pub here : (i : ℕ) → i < 165 → i / 5 % 3 ≡ r → i / 15 < n → get_or o i 0 ≡ block_byte z p (out_from R (i / 5)) (i % 5)
+  pub there : (i : ℕ) → (i / 5 % 3 ≡ r → i / 15 < n → ⊥) → get_or o i 0 ≡ get_or o₀ i 0
 
 -- the block that is kept as block j of the store
 unfoldable pub kept_from : Rows → ℕ → ℕ
@@ -58,6 +50,6 @@ kept_from R j = cond (ltb q 11) (3 * (11 - suc q) + r) (33 + (R.start r + (q - 1
 unfoldable pub merged_byte : ℕ → ℕ → ℕ → ℕ
 merged_byte a b m = bit_xor a (bit_and (bit_xor a b) m)
 
--- the table of masks: bit k of byte c of a block lies in symbol (8 c + k) / 10, which is exchanged if the set named e has its place
-pub record IsMasks (t : List ℕ) : Type 0 where
-  pub entry : (e c k : ℕ) → e < 16 → c < 5 → k < 8 → eqb (bit_of 8 (get_or t (5 * e + c) 0) k) 1 ≡ named e ((8 * c + k) / 10)
+-- the masks of a set of places for sixteen blocks: bit k of byte i lies in symbol (8 (i mod 5) + k) / 10 of its block, and is set if that is exchanged
+pub record IsMaskRow (ex : Places) (row : List ℕ) : Type 0 where
+  pub bit : (i k : ℕ) → i < 80 → k < 8 → eqb (bit_of 8 (get_or row i 0) k) 1 ≡ ex ((8 * (i % 5) + k) / 10)
