@@ -1,27 +1,24 @@
 -- The remainder by digits of 16 bits, with no table: what `fold_digit` works out is linear (`DigitFold`), and right at each power of x.
 -- Assumes nothing.
-use mathlib.Core.Path.{◌≡◌, refl, sym, ap, ap₂, ◌∙◌, subst}
+use mathlib.Core.Path.{◌≡◌, refl, sym, ap, ap₂, ◌∙◌}
 use mathlib.Core.Bool.{Bool}
-use mathlib.Core.List.{List}
+use mathlib.Core.List.{List, []}
 use Prim.Native.Nat.{ℕ, ◌+◌, ◌*◌, ◌/◌, ◌%◌, ◌^◌, ◌<◌, zero-le}
-use native.Mathlib.Nat.{div-one}
-use native.Mathlib.Omega.{arith}
 use lib.Arith.{digits_lt}
 use lib.Bits.{bit_xor, xor_shr, xor_mod}
-use lib.Dec.{T, eqb, eqb→eq, lit<}
-use lib.ListN.{get_or, set}
-use lib.Pow.{shr-shr, mod-pow-add, high, low}
+use lib.Dec.{T, eqb, eqb→eq}
+use lib.ListN.{get_or}
+use lib.Pow.{high, low}
 use Rattle.bits.specs.definitions.Bits.{tabulate}
 use Rattle.bits.specs.definitions.Words.{word_at}
-use Rattle.bits.proofs.Filling.{Filling, filling_at}
 use Rattle.bits.proofs.Sums.{sums_linear}
 use Rattle.bits.proofs.Table.{each, range_rule}
-use Rattle.bits.proofs.Tabulate.{get_d_tabulate, tabulate_cong}
+use Rattle.bits.proofs.Tabulate.{tabulate_cong}
 use Rattle.bch.specs.definitions.Code.{step_of, feed_of, remainder}
 use Rattle.bch.specs.private.Folded.{FoldedWords}
-use Rattle.bch.specs.private.Digits.{of_digits, of_digits_at, digit_at, digits_of}
+use Rattle.bch.specs.private.Digits.{of_digits}
 use Rattle.bch.proofs.DigitFold.{digit_fold}
-use Rattle.bch.proofs.Remainder.{feed_low, feed_append, remainder_own, remainder_xor, remainder_zero}
+use Rattle.bch.proofs.Remainder.{feed_append, remainder_own, remainder_xor, remainder_zero}
 
 -- ---- a digit below a remainder
 
@@ -61,71 +58,18 @@ fold_digit_law r d hr hd =
     ∙ sym (digit_more 16 r d (sym (remainder_own r hr)) hd refl)
 
 -- and four digits
-pub fold_digits_law : (a b c d : ℕ) {r s t : ℕ} → a < 65536 → b < 65536 → c < 65536 → d < 65536 → r ≡ feed_of a 16 b → s ≡ feed_of r 16 c → t ≡ feed_of s 16 d
-    → t ≡ remainder 64 (of_digits a b c d)
-fold_digits_law a b c d ha hb hc hd er es et =
-    digit_more 48 ((a * 65536 + b) * 65536 + c) d (digit_more 32 (a * 65536 + b) c (digit_more 16 a b (sym (remainder_own a ha)) hb er) hc es) hd et
-
--- a number's digits, but for what stands above 64 bits
-pub digits_own : (v : ℕ) {a : ℕ} → a ≡ v / 2 ^ 48 % 65536
-    → remainder 64 (of_digits a (v / 2 ^ 32 % 65536) (v / 65536 % 65536) (v % 65536)) ≡ remainder 64 v
-digits_own v e =
-    ap (remainder 64) (sym (cut v 48 ∙ under (v % 65536) (cut (v / 2 ^ 16) 32 ∙ under (v / 65536 % 65536)
-    (rw (shr-shr v 16 16) (cut (v / 2 ^ 32) 16 ∙ under (v / 2 ^ 32 % 65536) (rw (shr-shr v 32 16) (sym e)))))))
-    ∙ feed_low 0 64 v
-  where
-    cut : (n j : ℕ) → n % 2 ^ (j + 16) ≡ n / 2 ^ 16 % 2 ^ j * 65536 + n % 65536
-    cut n j = mod-pow-add n j 16
-
-    under : (d : ℕ) {x y : ℕ} → x ≡ y → x * 65536 + d ≡ y * 65536 + d
-    under d q = ap (λ (x : ℕ). x * 65536 + d) q
-
--- ---- the digits of a row
-
--- digit k of number i, and digit 0
-digit_at_lem : (s : List ℕ) (i k : ℕ) → k < 4 → digit_at s (4 * i + k) ≡ get_or s i 0 / 2 ^ (16 * k) % 65536
-unfolding digit_at
-digit_at_lem s i k h =
-    let q : (4 * i + k) / 4 ≡ i = omega arith in
-    let r : (4 * i + k) % 4 ≡ k = omega arith in
-    rw (q, r)
-
-digit_lowest : (s : List ℕ) (i : ℕ) → digit_at s (4 * i) ≡ get_or s i 0 % 65536
-digit_lowest s i =
-    let own : 4 * i ≡ 4 * i + 0 = omega arith in
-    ap (digit_at s) own ∙ digit_at_lem s i 0 (lit< tt) ∙ ap (λ (x : ℕ). x % 65536) (div-one (get_or s i 0))
-
--- a step that stores the four digits of number i
-pub digits_step : (s : List ℕ) {out₀ out : List ℕ} {i v : ℕ} → Filling (digit_at s) 1536 out₀ out (4 * i) → i < 384 → v < 2 ^ 64 → get_or s i 0 ≡ v
-    → Filling (digit_at s) 1536 out₀
-    (set (set (set (set out (4 * i) (v % 65536)) (4 * i + 1) (v / 65536 % 65536)) (4 * i + 2) (v / 2 ^ 32 % 65536)) (4 * i + 3) (v / 2 ^ 48)) (4 * (i + 1))
-digits_step s {out₀} {out} {i} {v} F h l e =
-    let next : 4 * i + 3 + 1 ≡ 4 * (i + 1) = omega arith in
-    let top : v / 2 ^ 48 ≡ v / 2 ^ 48 % 65536 = omega arith in
-    subst (Filling (digit_at s) 1536 out₀ _) next
-    (filling_at (digit_at s) (4 * i + 3) (v / 2 ^ 48) (omega arith)
-    (filling_at (digit_at s) (4 * i + 2) (v / 2 ^ 32 % 65536) (omega arith)
-    (filling_at (digit_at s) (4 * i + 1) (v / 65536 % 65536) refl
-    (filling_at (digit_at s) (4 * i) (v % 65536) refl F (omega arith) (sym (digit_lowest s i ∙ ap (λ (x : ℕ). x % 65536) e)))
-    (omega arith) (at 1 (lit< tt))) (omega arith) (at 2 (lit< tt))) (omega arith) (top ∙ at 3 (lit< tt)))
-  where
-    at : (k : ℕ) → k < 4 → v / 2 ^ (16 * k) % 65536 ≡ digit_at s (4 * i + k)
-    at k b = sym (digit_at_lem s i k b ∙ ap (λ (x : ℕ). x / 2 ^ (16 * k) % 65536) e)
-
--- what the digits of number i make has its remainder
-digits_remainder : (s : List ℕ) (i : ℕ) → i < 384 → remainder 64 (of_digits_at (digits_of s) i) ≡ remainder 64 (get_or s i 0)
-digits_remainder s i h =
-    rw (lowest, at 1 (lit< tt), at 2 (lit< tt), at 3 (lit< tt)) (digits_own (get_or s i 0) refl)
-  where
-    at : (k : ℕ) → k < 4 → get_or (digits_of s) (4 * i + k) 0 ≡ get_or s i 0 / 2 ^ (16 * k) % 65536
-    at k b = get_d_tabulate 1536 (digit_at s) (4 * i + k) 0 (omega arith) ∙ digit_at_lem s i k b
-
-    lowest : get_or (digits_of s) (4 * i) 0 ≡ get_or s i 0 % 65536
-    lowest = get_d_tabulate 1536 (digit_at s) (4 * i) 0 (omega arith) ∙ digit_lowest s i
+pub fold_digits_law : (d : List ℕ) {r s t : ℕ} → ((i : ℕ) → get_or d i 0 < 65536) → r ≡ feed_of (get_or d 3 0) 16 (get_or d 2 0)
+    → s ≡ feed_of r 16 (get_or d 1 0) → t ≡ feed_of s 16 (get_or d 0 0) → t ≡ remainder 64 (of_digits d)
+fold_digits_law d h er es et =
+    let a : ℕ = get_or d 3 0 in
+    let b : ℕ = get_or d 2 0 in
+    let c : ℕ = get_or d 1 0 in
+    digit_more 48 ((a * 65536 + b) * 65536 + c) (get_or d 0 0)
+    (digit_more 32 (a * 65536 + b) c (digit_more 16 a b (sym (remainder_own a (h 3))) (h 2) er) (h 1) es) (h 0) et
 
 -- the remainders of folded words, from their digits
-pub remainders_law : (words : List ℕ) {folds digits out : List ℕ} → FoldedWords 64 384 words folds → digits ≡ digits_of folds
-    → out ≡ tabulate 384 (λ i. remainder 64 (of_digits_at digits i)) → out ≡ tabulate 384 (λ i. remainder 126 (word_at words i))
-remainders_law words {folds} {digits} F e q =
-    q ∙ tabulate_cong 384 (λ i. remainder 64 (of_digits_at digits i)) (λ i. remainder 126 (word_at words i))
-    (λ i h. ap (λ (d : List ℕ). remainder 64 (of_digits_at d i)) e ∙ digits_remainder folds i h ∙ F.fold i h)
+pub remainders_law : (words : List ℕ) (digits : List (List ℕ)) {folds out : List ℕ} → FoldedWords 64 words folds → ((i : ℕ) → i < 384 → of_digits (get_or digits i []) ≡ get_or folds i 0)
+    → out ≡ tabulate 384 (λ i. remainder 64 (of_digits (get_or digits i []))) → out ≡ tabulate 384 (λ i. remainder 126 (word_at words i))
+remainders_law words digits F D q =
+    q ∙ tabulate_cong 384 (λ i. remainder 64 (of_digits (get_or digits i []))) (λ i. remainder 126 (word_at words i))
+    (λ i h. ap (remainder 64) (D i h) ∙ F.fold i h)

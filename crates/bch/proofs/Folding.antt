@@ -4,23 +4,27 @@
 use mathlib.Core.Path.{◌≡◌, refl, sym, ap, ap₂, ◌∙◌, subst}
 use mathlib.Core.Bool.{Bool, true, ◌&&◌}
 use mathlib.Core.List.{List, [], ◌∷◌}
+use mathlib.Core.Logic.{◌≢◌}
 use Prim.Native.Nat.{ℕ, ◌+◌, ◌*◌, ◌-◌, ◌/◌, ◌%◌, ◌^◌, ◌<◌, ◌≤◌}
-use native.Mathlib.Nat.{le_trans, lt_of_le_of_lt, mod-lt, mod-eq_of_lt, mul-one, not-suc-le-zero}
+use native.Mathlib.Nat.{lt_of_le_of_lt, mod-lt, mod-eq_of_lt, mul-one, not-suc-le-zero}
 use native.Mathlib.Decide.{ℕ_discrete}
 use native.Mathlib.Omega.{arith}
+use borrow.Author.Count.{below_more}
 use lib.Dec.{T, leb, leb→le, lit<, lit≤}
 use lib.ListN.{length, get_or, set}
 use lib.Pow.{pow_pos, shl_lt, shl_exact, shr_mod, shr-shr, mod-mod-pow, high, low}
 use lib.Seq.{get_or-set_same, get_or-set_other, set-get_or}
-use lib.Bits.{bit_or, bit_xor, xor_lt, xor_zero_r}
+use lib.Bits.{bit_xor, xor_lt, xor_zero_r}
+use Rattle.bits.specs.declared.Word.{Word}
 use Rattle.bits.specs.definitions.Words.{word_of, word_at, half_of, row_of}
-use Rattle.bits.proofs.Xor.{xor_assoc, xor_four, or_within}
+use Rattle.bits.proofs.Xor.{xor_assoc, xor_four}
 use Rattle.bits.proofs.Sums.{sum_at, sums_linear}
 use Rattle.bits.proofs.Table.{and_left, and_right}
 use Rattle.bits.proofs.Tabulate.{is_tabulate}
+use Rattle.bits.proofs.Filling.{filling_rest}
 use Rattle.bits.proofs.Words.{Rewriting, row_rest, row_step}
 use Rattle.bch.specs.definitions.Code.{step_of, feed_of, remainder}
-use Rattle.bch.specs.private.Folded.{FoldedWords, UppersWithin}
+use Rattle.bch.specs.private.Folded.{FoldedBy, FoldedWords, UppersWithin}
 use Rattle.bch.proofs.Remainder.{feed_lt, feed_xor, feed_append, feed_low, feed_zeros, feed_swap, feed_one, remainder_lt, remainder_xor}
 use Rattle.bch.proofs.Remainder.{remainder_zero, remainder_own, remainder_byte, remainder_lead, remainder_cut, remainder_above}
 
@@ -167,49 +171,48 @@ fold_byte_law n v r l e h =
 
 -- ---- the words of a row
 
-pub folded_start : (m : ℕ) (words folds : List ℕ) → FoldedWords m 0 words folds
-folded_start m words folds = record { fold = λ k h. absurd (not-suc-le-zero h) }
+-- what folds a word leaves its remainder
+pub folded_words : (m : ℕ) {words folds : List ℕ} {P : Word → ℕ → Type 0} → FoldedBy P 384 words folds
+    → ((w : Word) (v : ℕ) → P w v → remainder m v ≡ remainder 126 (word_of w.hi w.lo)) → FoldedWords m words folds
+folded_words m {words} {folds} F h = record {
+  fold = λ i l. let w = F.fold i l in h w.0 (get_or folds i 0) w.2 ∙ ap (remainder 126) w.1;
+}
 
-pub folded_step : {m i : ℕ} {words folds : List ℕ} (v : ℕ) → FoldedWords m i words folds → i < length folds → remainder m v ≡ remainder 126 (word_at words i)
-    → FoldedWords m (i + 1) words (set folds i v)
-folded_step {m} {i} {words} {folds} v F l e = record { fold = λ k h. at k (ℕ_discrete k i) h }
+-- where a loop over words begins, and a step that stores what word i is folded into
+pub folded_start : (P : Word → ℕ → Type 0) (words folds : List ℕ) → FoldedBy P 0 words folds
+folded_start P words folds = record { fold = λ k h. absurd (not-suc-le-zero h) }
+
+pub folded_step : {P : Word → ℕ → Type 0} {i : ℕ} {words folds : List ℕ} (w : Word) (v : ℕ) → FoldedBy P i words folds → i < length folds
+    → word_of w.hi w.lo ≡ word_at words i → P w v → FoldedBy P (i + 1) words (set folds i v)
+folded_step {P} {i} {words} {folds} w v F l e p = record { fold = below_more at i (λ k h. kept k h) here }
   where
-    at : (k : ℕ) → Dec (k ≡ i) → k < i + 1 → remainder m (get_or (set folds i v) k 0) ≡ remainder 126 (word_at words k)
-    at k (yes q) h = rw (q, get_or-set_same folds i v 0 l) e
-    at k (no ne) h = rw (get_or-set_other folds i k v 0 ne) (F.fold k (omega arith))
+    at : ℕ → Type 0
+    at k = (x : Word) × (word_of x.hi x.lo ≡ word_at words k) × P x (get_or (set folds i v) k 0)
+
+    kept : (k : ℕ) → k < i → at k
+    kept k h = let ne : k ≢ i = omega arith in let x = F.fold k h in (x.0, x.1, rw (get_or-set_other folds i k v 0 ne) x.2)
+
+    here : at i
+    here = (w, e, rw (get_or-set_same folds i v 0 l) p)
 
 -- a step that stores the upper number of word i without what stands above the word
-pub trimmed_step : {s₀ s : List ℕ} {i : ℕ} → Rewriting (word_at s₀) 384 s₀ s i → i < 384 → get_or s (2 * i + 1) 0 < 2 ^ 64
+pub trimmed_step : {s₀ s : List ℕ} {i : ℕ} → Rewriting (word_at s₀) 384 s₀ s i → i < 384 → get_or s₀ (2 * i + 1) 0 < 2 ^ 64
     → Rewriting (word_at s₀) 384 s₀ (set s (2 * i) (get_or s (2 * i) 0 % 2 ^ 62)) (i + 1)
 unfolding word_of
-trimmed_step {s₀} {s} {i} R h l =
+trimmed_step {s₀} {s} {i} R h l₀ =
     let u : ℕ = get_or s (2 * i) 0 % 2 ^ 62 in
     let lo : ℕ = get_or s (2 * i + 1) 0 in
+    let l : lo < 2 ^ 64 = rw (filling_rest (half_of (word_at s₀)) (2 * i + 1) 0 R.numbers (omega arith)) l₀ in
     let kept : set (set s (2 * i) u) (2 * i + 1) lo ≡ set s (2 * i) u =
     ap (set (set s (2 * i) u) (2 * i + 1)) (sym (get_or-set_other s (2 * i) (2 * i + 1) u 0 (omega arith))) ∙ set-get_or (set s (2 * i) u) (2 * i + 1) 0 in
     subst (λ (t : List ℕ). Rewriting (word_at s₀) 384 s₀ t (i + 1)) kept
     (row_step (word_at s₀) R u lo h (sym (high u 64 l) ∙ ap (λ (w : ℕ). w / 2 ^ 64) (row_rest (word_at s₀) R))
     (sym (low u 64 l) ∙ ap (λ (w : ℕ). w % 2 ^ 64) (row_rest (word_at s₀) R)))
 
--- ---- all upper numbers in one
-
-pub within_start : (words : List ℕ) (top : ℕ) → ((k : ℕ) → get_or words k 0 < 2 ^ 64) → UppersWithin 0 words top
-within_start words top l = record { number = l; within = λ k h. absurd (not-suc-le-zero h) }
-
-pub within_step : {i top : ℕ} {words : List ℕ} → UppersWithin i words top → UppersWithin (i + 1) words (bit_or top (get_or words (2 * i) 0))
-within_step {i} {top} {words} U = record { number = U.number; within = λ k h. at k (ℕ_discrete k i) h }
-  where
-    both : (top ≤ bit_or top (get_or words (2 * i) 0)) × (get_or words (2 * i) 0 ≤ bit_or top (get_or words (2 * i) 0))
-    both = or_within top (get_or words (2 * i) 0)
-
-    at : (k : ℕ) → Dec (k ≡ i) → k < i + 1 → get_or words (2 * k) 0 ≤ bit_or top (get_or words (2 * i) 0)
-    at k (yes q) h = rw q both.1
-    at k (no ne) h = le_trans (U.within k (omega arith)) both.0
-
 -- a row above whose words nothing stands is the row of its words
-pub row_own : (s : List ℕ) (top : ℕ) → UppersWithin 384 s top → top < 2 ^ 62 → length s ≡ 768 → s ≡ row_of 384 (word_at s)
+pub row_own : (s : List ℕ) {top : ℕ} → UppersWithin s top → top < 2 ^ 62 → length s ≡ 768 → s ≡ row_of 384 (word_at s)
 unfolding half_of word_at word_of
-row_own s top U small long = is_tabulate 0 s 768 (half_of (word_at s)) long (λ j h. at j (ℕ_discrete (j % 2) 0) h)
+row_own s U small long = is_tabulate 0 s 768 (half_of (word_at s)) long (λ j h. at j (ℕ_discrete (j % 2) 0) h)
   where
     upper : (i : ℕ) → i < 384 → get_or s (2 * i) 0 % 2 ^ 62 ≡ get_or s (2 * i) 0
     upper i h = mod-eq_of_lt (lt_of_le_of_lt (U.within i h) small)

@@ -1,32 +1,29 @@
 // The word code BCH(126,110): the parity and the remainder of one word, and of the 384 words of a frame in one call.
-// A word is two numbers: hi has bits 0 to 61 in its 62 low bits, lo has bits 62 to 125. Bits 0 to 109 are the information, the rest is parity.
+// Bits 0 to 109 of a word are the information, the rest is parity.
 #![tactic(auto)]
 
-ghost use Rattle.std.specs.Prelude.{◌≡◌, ◌+◌, ◌*◌, ◌%◌, ◌^◌, ◌<◌, ◌≤◌, length};
+ghost use Rattle.std.specs.Prelude.{◌≡◌, ℕ, [], ◌+◌, ◌*◌, ◌%◌, ◌^◌, ◌<◌, ◌≤◌, get_or, slice_index};
 ghost use Rattle.bits.specs.definitions.Bits.{tabulate};
 ghost use Rattle.bits.specs.definitions.Words.{word_of, word_at, row_of};
 ghost use Rattle.bch.specs.definitions.Code.{feed_of, remainder, parity_of};
 ghost use Rattle.bch.specs.definitions.Word.{information_of, coded_frame};
 ghost use Rattle.bch.specs.private.Tables.{IsByteRemainders};
-ghost use Rattle.bch.specs.private.Folded.{FoldedWords, UppersWithin};
-ghost use Rattle.bch.specs.private.Digits.{of_digits, of_digits_at, digits_of};
+ghost use Rattle.bch.specs.private.Folded.{FoldedBy, FoldedWords, UppersWithin};
+ghost use Rattle.bch.specs.private.Digits.{of_digits};
+
+use bits::Word;
 
 mod tables;
 
-// The remainders of bytes times x^16.
-fn byte_remainders() -> [u16; 256]
-    ensures { IsByteRemainders result }
-{
-    tables::BYTE_REMAINDERS
-}
+// ---- a word in fewer bits
 
 // A word in 64 bits with the same remainder: x^64 has that of 1 + x^6 + x^9 + x^20 + x^31, and x^95 that of 1 + x + x^4 + x^26 + x^30.
-fn fold_upper(hi: u64, lo: u64) -> u64
-    ensures { remainder 64 result ≡ remainder 126 (word_of hi lo) }
+fn fold_upper(word: Word) -> u64
+    ensures { remainder 64 result ≡ remainder 126 (word_of word.hi word.lo) }
 {
-    let a = hi % bits::TWO_31;
-    let b = hi % bits::TWO_62 / bits::TWO_31;
-    let v = lo ^ a ^ (a << 6) ^ (a << 9) ^ (a << 20) ^ (a << 31);
+    let a = word.hi % bits::TWO_31;
+    let b = word.hi % bits::TWO_62 / bits::TWO_31;
+    let v = word.lo ^ a ^ (a << 6) ^ (a << 9) ^ (a << 20) ^ (a << 31);
     v ^ b ^ (b << 1) ^ (b << 4) ^ (b << 26) ^ (b << 30)
 }
 
@@ -39,81 +36,101 @@ fn fold_top(v: u64) -> u64
 }
 
 // A word in the 48 low bits of a number, with the same remainder.
-fn folded(hi: u64, lo: u64) -> u64
-    ensures { remainder 48 result ≡ remainder 126 (word_of hi lo) }
+fn folded(word: Word) -> u64
+    ensures { remainder 48 result ≡ remainder 126 (word_of word.hi word.lo) }
 {
-    fold_top(fold_upper(hi, lo))
+    fold_top(fold_upper(word))
 }
 
-// The remainder of the low byte of b times x^16.
-fn byte_remainder(t: &[u16; 256], b: u64) -> u64
-    requires { IsByteRemainders t.now }
-    ensures { (result ≡ remainder 24 (b % 256 * 2 ^ 16)) × (result < 65536) }
+// Word i of a frame.
+fn word_in(words: &[u64; 768], i: usize) -> Word
+    requires { i < 384 }
+    ensures { word_of result.hi result.lo ≡ word_at words.now i }
 {
-    let i = (b % 256) as usize;
-    bits::wide16(t[i])
-}
-
-// The 24 + n low bits of v in 16 + n, with the same remainder: what the top byte leaves is added two bytes below it.
-fn fold_byte(t: &[u16; 256], n: u64, v: u64) -> u64
-    requires byte_remainders { IsByteRemainders t.now }
-    requires n_bound { n ≤ 24 }
-    ensures { remainder (16 + n) result ≡ remainder (24 + n) v }
-{
-    let r = byte_remainder(t, v >> (16 + n));
-    v ^ (r << n)
-}
-
-// The remainder of the 48 low bits of v, byte by byte from the top.
-fn remainder_by_bytes(t: &[u16; 256], v: u64) -> u64
-    requires { IsByteRemainders t.now }
-    ensures { result ≡ remainder 48 v }
-{
-    let c = fold_byte(t, 24, v);
-    let d = fold_byte(t, 16, c);
-    let e = fold_byte(t, 8, d);
-    let f = fold_byte(t, 0, e);
-    f % 65536
-}
-
-// The parity of a word's information; the word's own parity bits are not looked at.
-pub fn parity(hi: u64, lo: u64) -> u64
-    ensures { result ≡ parity_of (information_of (word_of hi lo)) }
-{
-    let t = byte_remainders();
-    let v = folded(hi, lo / 65536 * 65536);
-    remainder_by_bytes(&t, v)
-}
-
-// Each word of a frame folded.
-fn fold_words(words: &[u64], out: &mut [u64])
-    requires { (length words.now ≡ 768) × (length out.old ≡ 384) }
-    ensures { FoldedWords 48 384 words.now out.new }
-{
-    let mut i: usize = 0;
-    while i < 384 {
-        let at = 2 * i;
-        out[i] = folded(words[at], words[at + 1]);
-        i += 1;
+    Word {
+        hi: words[2 * i],
+        lo: words[2 * i + 1],
     }
 }
 
+// Each word of a frame, folded; and every bit of the upper numbers in one, which none of them exceeds.
+fn fold_words<F: Fn(Word) -> u64>(words: &[u64; 768], out: &mut [u64; 384], fold: F) -> u64
+    requires { F.IsAlwaysCallable fold }
+    ensures folded_words { FoldedBy (F.post fold) 384 words.now out.new }
+    ensures uppers_within { UppersWithin words.now result }
+{
+    let mut uppers = 0;
+    for (i, number) in out.iter_mut().enumerate() {
+        uppers |= words[2 * i];
+        *number = fold(word_in(words, i));
+    }
+    uppers
+}
+
+// ---- the parity, by bytes
+
+// The remainders of bytes times x^16.
+#[derive(Drop)]
+struct ByteRemainders {
+    entries: [u16; 256],
+    ghost is: { IsByteRemainders entries },
+}
+
+impl ByteRemainders {
+    fn built() -> ByteRemainders {
+        ByteRemainders {
+            entries: tables::BYTE_REMAINDERS,
+        }
+    }
+
+    // The remainder of the low byte of b times x^16.
+    fn of(&self, b: u64) -> u16
+        ensures { result ≡ remainder 24 (b % 256 * 2 ^ 16) }
+    {
+        self.entries[(b % 256) as usize]
+    }
+
+    // The 24 + n low bits of v in 16 + n, with the same remainder: what the top byte leaves is added two bytes below it.
+    fn fold_byte(&self, n: u64, v: u64) -> u64
+        requires { n ≤ 24 }
+        ensures { remainder (16 + n) result ≡ remainder (24 + n) v }
+    {
+        let r = u64::from(self.of(v >> (16 + n)));
+        v ^ (r << n)
+    }
+
+    // The remainder of the 48 low bits of v, byte by byte from the top.
+    fn remainder(&self, v: u64) -> u64
+        ensures { result ≡ remainder 48 v }
+    {
+        let c = self.fold_byte(24, v);
+        let d = self.fold_byte(16, c);
+        let e = self.fold_byte(8, d);
+        let f = self.fold_byte(0, e);
+        f % 65536
+    }
+}
+
+// The parity of a word's information; the word's own parity bits are not looked at.
+pub fn parity(word: Word) -> u64
+    ensures { result ≡ parity_of (information_of (word_of word.hi word.lo)) }
+{
+    let information = Word {
+        lo: word.lo / 65536 * 65536,
+        ..word
+    };
+    ByteRemainders::built().remainder(folded(information))
+}
+
 // Each word of a frame gets the parity of its information: a word and its remainder make a code word, whatever parity bits stood there.
-fn add_parity(t: &[u16; 256], folds: &[u64], words: &mut [u64])
-    requires byte_remainders { IsByteRemainders t.now }
-    requires folds_len { (length folds.now ≡ 384) × (length words.old ≡ 768) }
-    requires folded_words { FoldedWords 48 384 words.old folds.now }
+fn add_parity(table: &ByteRemainders, folds: &[u64; 384], words: &mut [u64; 768])
+    requires { FoldedWords 48 words.old folds.now }
     ensures { words.new ≡ coded_frame words.old }
 {
-    let mut i: usize = 0;
-    while i < 384 {
-        let at = 2 * i;
-        let hi = words[at];
-        let lo = words[at + 1];
-        let r = remainder_by_bytes(t, folds[i]);
-        words[at] = hi % bits::TWO_62;
-        words[at + 1] = lo ^ r;
-        i += 1;
+    for (i, fold) in folds.iter().enumerate() {
+        let word = word_in(words, i);
+        words[2 * i] = word.hi % bits::TWO_62;
+        words[2 * i + 1] = word.lo ^ table.remainder(*fold);
     }
 }
 
@@ -121,11 +138,13 @@ fn add_parity(t: &[u16; 256], folds: &[u64], words: &mut [u64])
 pub fn encode_frame(words: &mut [u64; 768])
     ensures { words.new ≡ coded_frame words.old }
 {
-    let t = byte_remainders();
-    let mut folds = [0u64; 384];
-    fold_words(words, &mut folds);
-    add_parity(&t, &folds, words);
+    let table = ByteRemainders::built();
+    let mut folds = [0; 384];
+    fold_words(words, &mut folds, folded);
+    add_parity(&table, &folds, words);
 }
+
+// ---- the remainder of a word received, by digits of 16 bits
 
 // A digit of 16 bits below a remainder: the remainder of r times x^16, and of the digit d. The quotient comes first: that of x^32 by the generator is
 // x^16 + x^14 + x^12 + x^11 + x^9 + x^8 + x^6 + x^4 + x^3; then the generator's lower terms, as often as it says.
@@ -140,99 +159,61 @@ fn fold_digit(r: u16, d: u16) -> u16
 }
 
 // The remainder of a number of four digits, from the top: the top digit is its own remainder.
-fn fold_digits(a: u16, b: u16, c: u16, d: u16) -> u16
-    ensures { result ≡ remainder 64 (of_digits a b c d) }
+fn fold_digits(digits: &[u16; 4]) -> u16
+    ensures { result ≡ remainder 64 (of_digits digits.now) }
 {
-    fold_digit(fold_digit(fold_digit(a, b), c), d)
+    let r = fold_digit(digits[3], digits[2]);
+    let s = fold_digit(r, digits[1]);
+    fold_digit(s, digits[0])
+}
+
+// A number's four digits, the lowest first.
+fn digits_of(v: u64) -> [u16; 4]
+    ensures { of_digits result ≡ v }
+{
+    [
+        (v % 65536) as u16,
+        (v / 65536 % 65536) as u16,
+        (v / bits::TWO_32 % 65536) as u16,
+        (v / bits::TWO_48) as u16,
+    ]
 }
 
 // The remainder of a word: 0 exactly at the code words.
-pub fn word_remainder(hi: u64, lo: u64) -> u16
-    ensures { result ≡ remainder 126 (word_of hi lo) }
+pub fn word_remainder(word: Word) -> u16
+    ensures { result ≡ remainder 126 (word_of word.hi word.lo) }
 {
-    let v = fold_upper(hi, lo);
-    let a = (v / bits::TWO_48) as u16;
-    let b = (v / bits::TWO_32 % 65536) as u16;
-    let c = (v / 65536 % 65536) as u16;
-    let d = (v % 65536) as u16;
-    fold_digits(a, b, c, d)
-}
-
-// Each word of a frame folded into 64 bits; and all the upper numbers in one, which none of them exceeds.
-fn fold_uppers(words: &[u64], out: &mut [u64]) -> u64
-    requires { (length words.now ≡ 768) × (length out.old ≡ 384) }
-    ensures uppers_within { UppersWithin 384 words.now result }
-    ensures folded_words { FoldedWords 64 384 words.now out.new }
-{
-    let mut top: u64 = 0;
-    let mut i: usize = 0;
-    while i < 384 {
-        let at = 2 * i;
-        let hi = words[at];
-        let lo = words[at + 1];
-        top = top | hi;
-        out[i] = fold_upper(hi, lo);
-        i += 1;
-    }
-    top
+    fold_digits(&digits_of(fold_upper(word)))
 }
 
 // What stands above a word's 126 bits goes. Where no upper number can have more, as in a frame received, no word is looked at.
-fn trim_words(top: u64, words: &mut [u64])
-    requires words_len { length words.old ≡ 768 }
-    requires uppers_within { UppersWithin 384 words.old top }
+fn trim_words(uppers: u64, words: &mut [u64; 768])
+    requires { UppersWithin words.old uppers }
     ensures { words.new ≡ row_of 384 (word_at words.old) }
 {
-    if top < bits::TWO_62 {
+    if uppers < bits::TWO_62 {
         return;
     }
-    let mut i: usize = 0;
-    while i < 384 {
-        let at = 2 * i;
-        let hi = words[at];
-        words[at] = hi % bits::TWO_62;
-        i += 1;
+    for i in 0..384 {
+        words[2 * i] %= bits::TWO_62;
     }
 }
 
-// Four digits of 16 bits a number, the lowest first.
-fn digits_of(numbers: &[u64], out: &mut [u16])
-    requires { (length numbers.now ≡ 384) × (length out.old ≡ 1536) }
-    ensures { out.new ≡ digits_of numbers.now }
+// The digits of each number.
+fn split_numbers(numbers: &[u64; 384], out: &mut [[u16; 4]; 384])
+    ensures { (i : ℕ) → i < 384 → of_digits (get_or out.new i []) ≡ slice_index numbers.now i }
 {
-    let mut i: usize = 0;
-    while i < 384 {
-        let v = numbers[i];
-        let at = 4 * i;
-        out[at] = (v % 65536) as u16;
-        out[at + 1] = (v / 65536 % 65536) as u16;
-        out[at + 2] = (v / bits::TWO_32 % 65536) as u16;
-        out[at + 3] = (v / bits::TWO_48) as u16;
-        i += 1;
+    for (i, digits) in out.iter_mut().enumerate() {
+        *digits = digits_of(numbers[i]);
     }
 }
 
-// The remainder of number k of a row of digits.
-fn remainder_at(digits: &[u16], k: usize) -> u16
-    requires { (length digits.now ≡ 1536) × (k < 384) }
-    ensures { result ≡ remainder 64 (of_digits_at digits.now k) }
+// The remainder of each number, which is shifts of 16 bits alone: eight are done at a time.
+fn digit_remainders(numbers: &[[u16; 4]; 384], out: &mut [u16; 384])
+    ensures { out.new ≡ tabulate 384 (λ i. remainder 64 (of_digits (get_or numbers.now i []))) }
 {
-    let at = 4 * k;
-    fold_digits(digits[at + 3], digits[at + 2], digits[at + 1], digits[at])
-}
-
-// The remainder of each number, one of each fourth part of the row at a time: none of the four waits for another.
-fn digit_remainders(digits: &[u16], out: &mut [u16])
-    requires { (length digits.now ≡ 1536) × (length out.old ≡ 384) }
-    ensures { out.new ≡ tabulate 384 (λ i. remainder 64 (of_digits_at digits.now i)) }
-{
-    let mut i: usize = 0;
-    while i < 96 {
-        out[i] = remainder_at(digits, i);
-        out[96 + i] = remainder_at(digits, 96 + i);
-        out[192 + i] = remainder_at(digits, 192 + i);
-        out[288 + i] = remainder_at(digits, 288 + i);
-        i += 1;
+    for (i, rest) in out.iter_mut().enumerate() {
+        *rest = fold_digits(&numbers[i]);
     }
 }
 
@@ -241,10 +222,10 @@ pub fn remainders(words: &mut [u64; 768], out: &mut [u16; 384])
     ensures { (words.new ≡ row_of 384 (word_at words.old))
         × (out.new ≡ tabulate 384 (λ i. remainder 126 (word_at words.old i))) }
 {
-    let mut folds = [0u64; 384];
-    let top = fold_uppers(words, &mut folds);
-    trim_words(top, words);
-    let mut parts = [0u16; 1536];
-    digits_of(&folds, &mut parts);
-    digit_remainders(&parts, out);
+    let mut folds = [0; 384];
+    let uppers = fold_words(words, &mut folds, fold_upper);
+    trim_words(uppers, words);
+    let mut digits = [[0; 4]; 384];
+    split_numbers(&folds, &mut digits);
+    digit_remainders(&digits, out);
 }

@@ -1,6 +1,6 @@
 -- `bch::add_parity` meets its contract: the words before word i have their parity. Assumes nothing.
 use mathlib.Core.List.{List}
-use Prim.Native.Nat.{ℕ, ◌-◌}
+use Prim.Native.Nat.{ℕ}
 use Rattle.bits.specs.definitions.Words.{word_at}
 use Rattle.bits.proofs.Words.{Rewriting}
 use Rattle.bch.specs.definitions.Code.{coded}
@@ -12,6 +12,3 @@ sent s i = coded (information_of (word_at s i))
 
 abbrev pub invariant-loop-i : goal.invariant-loop-i
 invariant-loop-i l = Rewriting (sent l.initial.words) 384 l.initial.words l.words l.i
-
-abbrev pub decreases-loop-i : goal.decreases-loop-i
-decreases-loop-i l = 384 - l.i

@@ -5,4 +5,4 @@ use Rattle.bch.proofs.Folding.{fold_upper_law}
 use Rattle.bch.proofs.fold_upper.Goals as goal
 
 pub returns : goal.returns
-returns c = fold_upper_law c.args.hi c.args.lo _ _ (search rules) refl refl
+returns c = fold_upper_law c.args.word.hi c.args.word.lo _ _ (search rules) refl refl

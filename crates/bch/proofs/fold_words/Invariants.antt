@@ -1,12 +1,12 @@
--- `bch::fold_words` meets its contract: the words before word i are folded. Assumes nothing.
-use mathlib.Core.Path.{◌≡◌}
-use Prim.Native.Nat.{◌-◌, ◌≤◌}
-use lib.ListN.{length}
-use Rattle.bch.specs.private.Folded.{FoldedWords}
+-- `bch::fold_words` meets its contract: the words before word i are folded, and none of their upper numbers exceeds what is gathered. Assumes nothing.
+use Prim.Native.Nat.{ℕ, ◌*◌, ◌<◌, ◌≤◌}
+use lib.ListN.{get_or}
+use Rattle.bch.specs.private.Folded.{FoldedBy}
 use Rattle.bch.proofs.fold_words.Given as goal
 
 abbrev pub invariant-loop-i : goal.invariant-loop-i
-invariant-loop-i l = (l.i ≤ 384) × (length l.out ≡ 384) × FoldedWords 48 l.i l.words l.out
-
-abbrev pub decreases-loop-i : goal.decreases-loop-i
-decreases-loop-i l = 384 - l.i
+invariant-loop-i g l =
+    record {
+      folded : FoldedBy (goal.F-post g l.fold) l.i l.words l.out;
+      within : (k : ℕ) → k < l.i → get_or l.words (2 * k) 0 ≤ l.uppers;
+    }

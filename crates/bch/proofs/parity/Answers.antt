@@ -4,4 +4,4 @@ use Rattle.bch.proofs.Sent.{parity_law}
 use Rattle.bch.proofs.parity.Goals as goal
 
 pub returns : goal.returns
-returns c = parity_law _ _ _ _ (search rules) c.folded-v.ensures c.remainder_by_bytes.ensures
+returns c = parity_law _ _ _ _ (search rules) c.folded.ensures c.remainder.ensures

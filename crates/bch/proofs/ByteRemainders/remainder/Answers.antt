@@ -1,7 +1,7 @@
--- `bch::remainder_by_bytes` meets its contract: four bytes go, and 16 bits are their own remainder. Assumes nothing.
+-- `bch::ByteRemainders::remainder` meets its contract: four bytes go, and 16 bits are their own remainder. Assumes nothing.
 use mathlib.Core.Path.{sym, ◌∙◌}
 use Rattle.bch.proofs.Remainder.{remainder_low}
-use Rattle.bch.proofs.remainder_by_bytes.Goals as goal
+use Rattle.bch.proofs.ByteRemainders.remainder.Goals as goal
 
 pub returns : goal.returns
 returns c =
