@@ -2,6 +2,7 @@
 -- Assumes nothing.
 use mathlib.Core.Path.{◌≡◌, refl, sym, ◌∙◌}
 use Rattle.bits.proofs.Fixes.{Fixes}
+use Rattle.refusal.proofs.Numbers.{answer_injective}
 use Rattle.lanes.proofs.interleave.Kinds as interleave-kinds
 use Rattle.lanes.proofs.interleave.Reads as interleave-reads
 use Rattle.lanes.proofs.deinterleave.Kinds as deinterleave-kinds
@@ -12,9 +13,9 @@ pub interleave_determined : Fixes 3 interleave-kinds.ps interleave-kinds.r inter
     (λ κs s t. (s.1.1.0.now ≡ t.1.1.0.now) × (s.1.1.1.0.now ≡ t.1.1.1.0.now))
 interleave_determined κs a x y s t p q = (refl, (p.1 ∙ sym q.1, p.0 ∙ sym q.0))
 
--- whether it was done, and the store and the lanes at exit
+-- the answer, and the store and the lanes at exit
 pub deinterleave_determined : Fixes 3 deinterleave-kinds.ps deinterleave-kinds.r deinterleave-reads.Post
     (λ κs s t. (s.1.1.0.now ≡ t.1.1.0.now) × (s.1.1.1.0.now ≡ t.1.1.1.0.now))
 deinterleave_determined κs a x y s t p q =
-    let e = p.done ∙ sym q.done in
-    (e, (rw (p.store, q.store, e), rw (p.output, q.output, e)))
+    let e = p.1.done ∙ sym q.1.done in
+    (answer_injective (p.0 ∙ sym q.0), (rw (p.1.store, q.1.store, e), rw (p.1.output, q.1.output, e)))

@@ -1,7 +1,7 @@
 -- A whole frame: the permutation and the moved blocks are what the definitions say of it, on the way out and on the way back.
 -- Assumes nothing.
 use mathlib.Core.Path.{◌≡◌, refl, sym, ap, ◌∙◌, subst}
-use mathlib.Core.Bool.{Bool, true, false, ◌&&◌}
+use mathlib.Core.Bool.{Bool, true, ◌&&◌}
 use mathlib.Core.List.{List, ◌++◌}
 use Prim.Native.Nat.{ℕ, ◌+◌, ◌-◌, ◌/◌, ◌%◌, ◌<◌}
 use native.Mathlib.Decide.{dec_lt}
@@ -9,30 +9,29 @@ use native.Mathlib.Omega.{arith}
 use lib.Dec.{eqb}
 use lib.ListN.{get_or, length, take, get_or-append}
 use lib.Seq.{get_or-append-add, take_at}
-use borrow.Author.Tests.{eq-eqb, ne_eqb}
+use borrow.Author.Tests.{eq-eqb}
 use Rattle.bits.specs.definitions.Bits.{tabulate, AllBytes}
 use Rattle.bits.proofs.Fields.{length_bytes}
 use Rattle.lanes.specs.definitions.Permutation.{Lanes, Places, named, permuted, lanes_of, lane_bytes}
 use Rattle.lanes.specs.definitions.Interleaver.{sender, receiver, rows_out, interleaved_frame, interleaved_store, deinterleaved_frame, deinterleaved_store}
 use Rattle.lanes.specs.definitions.Interleaver.{DeinterleavesFrame}
-use Rattle.lanes.proofs.Bytewise.{out_of, kept_of, out_is, kept_is, frame_bit, frame_bytes, permuted_lt, rows_out_lt, lanes_lt, permuted_cong}
+use Rattle.lanes.proofs.Bytewise.{out_of, kept_of, out_is, kept_is, frame_bit, permuted_lt, rows_out_lt, lanes_lt, permuted_cong}
 
 -- the frame that stands in front of its store
 pub in_front : (x s : List ℕ) {z : List ℕ} → length x ≡ 5280 → z ≡ x ++ s → x ≡ take 5280 z
 in_front x s {z} long is = sym (ap (take 5280) is ∙ take_at x s 5280 long)
 
-bytes_joined : (x s : List ℕ) → AllBytes x → AllBytes s → AllBytes (x ++ s)
-bytes_joined x s X S = record { byte = λ m. at m (dec_lt m (length x)) }
+pub bytes_joined : {x s : List ℕ} → AllBytes x → AllBytes s → AllBytes (x ++ s)
+bytes_joined {x} {s} X S = record { byte = λ m. at m (dec_lt m (length x)) }
   where
     at : (m : ℕ) → Dec (m < length x) → get_or (x ++ s) m 0 < 256
     at m (yes h) = rw (get_or-append x s 0 m h) (X.byte m)
     at m (no h) =
         let e : m ≡ length x + (m - length x) = omega arith in
-        let f : get_or (x ++ s) m 0 ≡ get_or s (m - length x) 0 = ap (λ (k : ℕ). get_or (x ++ s) k 0) e ∙ get_or-append-add x s (m - length x) 0 in
-        rw f (S.byte (m - length x))
+        rw (ap (λ (k : ℕ). get_or (x ++ s) k 0) e ∙ get_or-append-add x s (m - length x) 0) (S.byte (m - length x))
 
 -- a frame a and its store s, and z, a frame with that store behind it
-module _ (e : ℕ) (a s : List ℕ) {z out next : List ℕ} (S : AllBytes s) where
+module _ (e : ℕ) (a s : List ℕ) {z out next : List ℕ} (Z : AllBytes z) where
   pub interleave_law : {x : List ℕ} → x ≡ lane_bytes (permuted (named e) (lanes_of a)) → z ≡ x ++ s → out ≡ tabulate 5280 (out_of sender z)
       → next ≡ tabulate 2880 (kept_of sender z) → (out ≡ interleaved_frame (named e) a s) × (next ≡ interleaved_store (named e) a s)
   unfolding interleaved_frame interleaved_store lane_bytes
@@ -51,44 +50,37 @@ module _ (e : ℕ) (a s : List ℕ) {z out next : List ℕ} (S : AllBytes s) whe
       long = ap length ex ∙ length_bytes 5280 (λ j. y (j / 1320) (j % 1320))
 
       X : AllBytes (x ++ s)
-      X = bytes_joined x s (subst AllBytes (sym ex) (frame_bytes y bit)) S
+      X = subst AllBytes is Z
 
       same : (p i : ℕ) → p < 32 → i < 1320 → lanes_of x p i ≡ y p i
       same p i hp hi = ap (λ (l : List ℕ). lanes_of l p i) ex ∙ frame_bit y bit p i hp hi
 
   -- y is the lanes before they are permuted
-  pub deinterleave_law : {y : List ℕ} → length a ≡ 5280 → AllBytes a → z ≡ a ++ s → y ≡ tabulate 5280 (out_of receiver z)
+  pub deinterleave_law : {y : List ℕ} → length a ≡ 5280 → z ≡ a ++ s → y ≡ tabulate 5280 (out_of receiver z)
       → next ≡ tabulate 2880 (kept_of receiver z) → out ≡ lane_bytes (permuted (named e) (lanes_of y))
       → (out ≡ deinterleaved_frame (named e) a s) × (next ≡ deinterleaved_store a s)
   unfolding deinterleaved_frame deinterleaved_store lane_bytes
-  deinterleave_law {y} long A is ey en eo = (
+  deinterleave_law {y} long is ey en eo = (
     eo ∙ permuted_cong (named e) (lanes_of y) back same,
-    en ∙ ap (λ (l : List ℕ). tabulate 2880 (kept_of receiver l)) is ∙ kept_is receiver a s long X (lanes_of a) (λ p i hp hi. refl),
+    en ∙ ap (λ (l : List ℕ). tabulate 2880 (kept_of receiver l)) is ∙ kept_is receiver a s long A (lanes_of a) (λ p i hp hi. refl),
   )
     where
       back : Lanes
       back = rows_out receiver s (lanes_of a)
 
-      X : AllBytes (a ++ s)
-      X = bytes_joined a s A S
+      A : AllBytes (a ++ s)
+      A = subst AllBytes is Z
 
       same : (p i : ℕ) → p < 32 → i < 1320 → lanes_of y p i ≡ back p i
       same p i hp hi =
           ap (λ (l : List ℕ). lanes_of l p i)
-          (ey ∙ ap (λ (l : List ℕ). tabulate 5280 (out_of receiver l)) is ∙ out_is receiver a s long X (lanes_of a) (λ p i hp hi. refl))
+          (ey ∙ ap (λ (l : List ℕ). tabulate 5280 (out_of receiver l)) is ∙ out_is receiver a s long A (lanes_of a) (λ p i hp hi. refl))
           ∙ frame_bit back (rows_out_lt receiver s (lanes_of a) (lanes_lt a)) p i hp hi
 
 -- ---- the lengths of what is lent
 
-module _ (s o : List ℕ) where
-  pub wrong_store : (length s ≡ 2880 → ⊥) → false ≡ (eqb (length s) 2880 && eqb (length o) 5280)
-  wrong_store h = rw (ne_eqb (length s) 2880 h)
-
-  pub wrong_lanes : length s ≡ 2880 → (length o ≡ 5280 → ⊥) → false ≡ (eqb (length s) 2880 && eqb (length o) 5280)
-  wrong_lanes e h = rw (eq-eqb (length s) 2880 e, ne_eqb (length o) 5280 h)
-
-  pub right_lengths : length s ≡ 2880 → length o ≡ 5280 → true ≡ (eqb (length s) 2880 && eqb (length o) 5280)
-  right_lengths e f = rw (eq-eqb (length s) 2880 e, eq-eqb (length o) 5280 f)
+pub right_lengths : (s o : List ℕ) → length s ≡ 2880 → length o ≡ 5280 → true ≡ (eqb (length s) 2880 && eqb (length o) 5280)
+right_lengths s o e f = rw (eq-eqb (length s) 2880 e, eq-eqb (length o) 5280 f)
 
 -- a call whose lengths are right deinterleaves
 pub frame_deinterleaved : {ex : Places} {a s o : List ℕ} {r : Bool} {s' o' : List ℕ} → DeinterleavesFrame ex a s o r s' o' → length s ≡ 2880 → length o ≡ 5280

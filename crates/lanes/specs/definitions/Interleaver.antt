@@ -70,6 +70,11 @@ deinterleaved_frame ex a s = lane_bytes (permuted ex (rows_out receiver s (lanes
 unfoldable pub deinterleaved_store : List ℕ → List ℕ → List ℕ
 deinterleaved_store a s = store_next receiver s (lanes_of a)
 
+-- the number that a call answers which deinterleaves with the store s and the lanes o to be written: 2 where the store is not as long as it must be, else 3
+-- where the lanes are not, else 0 (01, refusal list)
+abbrev pub deinterleave_answer : List ℕ → List ℕ → ℕ
+deinterleave_answer s o = cond (eqb (length s) 2880) (cond (eqb (length o) 5280) 0 3) 2
+
 -- a call that deinterleaves the lanes a, with the store s and the lanes o to be written: whether both are as long as they must be, and both at exit
 pub record DeinterleavesFrame (ex : Places) (a s o : List ℕ) (r : Bool) (s' o' : List ℕ) : Type 0 where
   pub done : r ≡ (eqb (length s) 2880 && eqb (length o) 5280)
