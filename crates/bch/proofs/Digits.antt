@@ -7,13 +7,13 @@ use Prim.Native.Nat.{ℕ, ◌+◌, ◌*◌, ◌/◌, ◌%◌, ◌^◌, ◌<◌, 
 use lib.Arith.{digits_lt}
 use lib.Bits.{bit_xor, xor_shr, xor_mod}
 use lib.Dec.{T, eqb, eqb→eq}
-use lib.ListN.{get_or}
+use lib.ListN.{length, get_or}
 use lib.Pow.{high, low}
 use Rattle.bits.specs.definitions.Bits.{tabulate}
 use Rattle.bits.specs.definitions.Words.{word_at}
 use Rattle.bits.proofs.Sums.{sums_linear}
 use Rattle.bits.proofs.Table.{each, range_rule}
-use Rattle.bits.proofs.Tabulate.{tabulate_cong}
+use Rattle.bits.proofs.Tabulate.{is_tabulate}
 use Rattle.bch.specs.definitions.Code.{step_of, feed_of, remainder}
 use Rattle.bch.specs.private.Folded.{FoldedWords}
 use Rattle.bch.specs.private.Digits.{of_digits}
@@ -68,8 +68,9 @@ fold_digits_law d h er es et =
     (digit_more 32 (a * 65536 + b) c (digit_more 16 a b (sym (remainder_own a (h 3))) (h 2) er) (h 1) es) (h 0) et
 
 -- the remainders of folded words, from their digits
-pub remainders_law : (words : List ℕ) (digits : List (List ℕ)) {folds out : List ℕ} → FoldedWords 64 words folds → ((i : ℕ) → i < 384 → of_digits (get_or digits i []) ≡ get_or folds i 0)
-    → out ≡ tabulate 384 (λ i. remainder 64 (of_digits (get_or digits i []))) → out ≡ tabulate 384 (λ i. remainder 126 (word_at words i))
-remainders_law words digits F D q =
-    q ∙ tabulate_cong 384 (λ i. remainder 64 (of_digits (get_or digits i []))) (λ i. remainder 126 (word_at words i))
-    (λ i h. ap (remainder 64) (D i h) ∙ F.fold i h)
+pub remainders_law : (words : List ℕ) (digits : List (List ℕ)) {folds out : List ℕ} → FoldedWords 64 words folds
+    → ((i : ℕ) → i < 384 → of_digits (get_or digits i []) ≡ get_or folds i 0)
+    → length out ≡ 384 → ((i : ℕ) → i < 384 → get_or out i 0 ≡ remainder 64 (of_digits (get_or digits i [])))
+    → out ≡ tabulate 384 (λ i. remainder 126 (word_at words i))
+remainders_law words digits {folds} {out} F D long R =
+    is_tabulate 0 out 384 (λ i. remainder 126 (word_at words i)) long (λ i h. R i h ∙ ap (remainder 64) (D i h) ∙ F.fold i h)

@@ -210,7 +210,7 @@ fn split_numbers(numbers: &[u64; 384], out: &mut [[u16; 4]; 384])
 
 // The remainder of each number, which is shifts of 16 bits alone: eight are done at a time.
 fn digit_remainders(numbers: &[[u16; 4]; 384], out: &mut [u16; 384])
-    ensures { out.new ≡ tabulate 384 (λ i. remainder 64 (of_digits (get_or numbers.now i []))) }
+    ensures { (i : ℕ) → i < 384 → slice_index out.new i ≡ remainder 64 (of_digits (get_or numbers.now i [])) }
 {
     for (i, rest) in out.iter_mut().enumerate() {
         *rest = fold_digits(&numbers[i]);

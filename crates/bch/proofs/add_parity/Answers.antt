@@ -10,7 +10,6 @@ use Rattle.bch.proofs.add_parity.Invariants.{sent}
 use Rattle.bch.proofs.add_parity.Goals as goal
 
 pub loop-i-init : goal.loop-i-init
-unfolding coded_frame
 loop-i-init c = row_start _ (search rules)
 
 pub loop-i-preserved : goal.loop-i-preserved

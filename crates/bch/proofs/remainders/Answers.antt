@@ -5,4 +5,6 @@ use Rattle.bch.proofs.remainders.Goals as goal
 
 pub returns : goal.returns
 returns c =
-    (c.trim_words.ensures, remainders_law _ _ (folded_words 64 c.fold_words-uppers.ensures.folded_words (λ w v p. p.1)) c.split_numbers.ensures c.digit_remainders.ensures)
+    let folds = folded_words 64 c.fold_words-uppers.ensures.folded_words (λ w v p. p.1) in
+    let rests = c.digit_remainders in
+    (c.trim_words.ensures, remainders_law _ _ folds c.split_numbers.ensures rests.array_long rests.ensures)
