@@ -1,26 +1,23 @@
--- From a frame's words to its lanes: the seven numbers of a third of a lane out of its four words, the third's bytes out of the numbers, and the lanes out of
--- the thirds. `Begun` is the invariant of a third; the measures are the numbers and the lanes that are left.
+-- From a frame's words to its lanes: the seven numbers of a third of a lane out of its four words, and the third's bytes out of the numbers.
 -- Assumes nothing.
 use mathlib.Core.Path.{◌≡◌, refl, sym, ap, ap₂, ◌∙◌, subst}
-use mathlib.Core.List.{List, [], ◌∷◌, ◌++◌}
+use mathlib.Core.List.{List, [], ◌∷◌}
 use Prim.Native.Nat.{ℕ, ◌+◌, ◌-◌, ◌*◌, ◌/◌, ◌%◌, ◌^◌, ◌≤◌, ◌<◌}
-use native.Mathlib.Nat.{add-zero, not-suc-le-zero}
 use native.Mathlib.Decide.{dec_lt}
 use native.Mathlib.Omega.{arith}
 use lib.Dec.{lit<}
 use lib.Pow.{shr-shr}
-use lib.ListN.{length, get_or, take, drop}
+use lib.ListN.{get_or}
 use Rattle.bits.specs.definitions.Bits.{tabulate, field_at, AllBytes}
 use Rattle.bits.specs.definitions.Words.{word_of}
 use Rattle.bits.specs.definitions.Put.{Put}
-use Rattle.bits.proofs.Tabulate.{get_d_tabulate, is_tabulate}
+use Rattle.bits.proofs.Tabulate.{is_tabulate}
 use Rattle.bits.proofs.Fields.{field_join, field_top, field_low, byte_field}
-use Rattle.bits.proofs.Filling.{Filling, filling_put, filling_done}
 use Rattle.bits.proofs.Joins.{put_byte}
 use Rattle.lane_words.specs.definitions.LaneWords.{word_lanes}
-use Rattle.lane_words.specs.private.Thirds.{number_at, information_in, across_of, third_byte, lane_byte}
-use Rattle.lane_words.proofs.LaneWords.{field_middle, word_middle, word_first, word_last, lanes_word}
-use Rattle.lane_words.proofs.Thirds.{join}
+use Rattle.lane_words.specs.private.Thirds.{number_at, word_place, information_in, across_of, Written}
+use Rattle.lane_words.proofs.LaneWords.{field_middle, word_middle, word_first, word_last, lanes_word, lanes_length}
+use Rattle.lane_words.proofs.Thirds.{join, number_of}
 
 -- ---- 64 bits of the words in a string a
 
@@ -67,53 +64,54 @@ word_across a b hi lo hi' lo' l l' e e' m c h k er ec =
 
 -- ---- the numbers of a third
 
--- the number i places behind the first of third t of lane p, in a row of words
-abbrev half_at : List ℕ → ℕ → ℕ → ℕ → ℕ
-half_at s t p i = get_or s (2 * (128 * t + p) + i) 0
+-- the numbers hi and lo are the word whose first information bit is bit b of the string a
+pub record WordFrom (a : List ℕ) (b hi lo : ℕ) : Type 0 where
+  pub small : lo < 2 ^ 64
+  pub is : field_at a b 110 ≡ word_of hi lo / 2 ^ 16
 
-module _ (s : List ℕ) (t p : ℕ) (ht : t < 3) (hp : p < 32) (small : (i : ℕ) → get_or s i 0 < 2 ^ 64) where
-  -- word q of the four of the third
-  third_word : (q b : ℕ) → q < 4 → b ≡ 440 * (3 * p + t) + 110 * q
-      → field_at (word_lanes s) b 110 ≡ word_of (half_at s t p (64 * q)) (half_at s t p (64 * q + 1)) / 2 ^ 16
-  third_word q b h e =
-      let j = 12 * p + 4 * t + q in
-      let hi : 2 * (128 * t + p) + 64 * q ≡ 2 * (32 * (j % 12) + j / 12) = omega arith in
-      let lo : 2 * (128 * t + p) + (64 * q + 1) ≡ 2 * (32 * (j % 12) + j / 12) + 1 = omega arith in
-      let from : b ≡ 110 * j = omega arith in
-      ap (λ (i : ℕ). field_at (word_lanes s) i 110) from
-      ∙ lanes_word s j (omega arith) (small (2 * (128 * t + p) + (64 * q + 1))) (ap (λ (i : ℕ). get_or s i 0) hi) (ap (λ (i : ℕ). get_or s i 0) lo)
+-- word q of the four of third t of lane p, in a row of words
+pub third_word : (s : List ℕ) (p t q : ℕ) {hi lo : ℕ} → p < 32 → t < 3 → q < 4 → ((i : ℕ) → get_or s i 0 < 2 ^ 64)
+    → (hi ≡ get_or s (2 * word_place (4 * t + q) p) 0) × (lo ≡ get_or s (2 * word_place (4 * t + q) p + 1) 0)
+    → WordFrom (word_lanes s) (1320 * p + 440 * t + 110 * q) hi lo
+third_word s p t q {lo = lo} hp ht hq small e =
+    let j = 12 * p + 4 * t + q in
+    let place : word_place (4 * t + q) p ≡ 32 * (j % 12) + j / 12 = omega arith in
+    let from : 110 * j ≡ 1320 * p + 440 * t + 110 * q = omega arith in
+    let l : lo < 2 ^ 64 = rw e.1 (small _) in
+    record {
+      small = l;
+      is =
+          ap (λ (i : ℕ). field_at (word_lanes s) i 110) (sym from)
+          ∙ lanes_word s j (omega arith) l (e.0 ∙ ap (λ (i : ℕ). get_or s (2 * i) 0) place) (e.1 ∙ ap (λ (i : ℕ). get_or s (2 * i + 1) 0) place);
+    }
 
-  -- 64 bits of the third from its bit o on: before the last m bits of word q, or its last m and then the first of the next word
-  inside : (q m o : ℕ) {r : ℕ} → q < 4 → m < 47 → o ≡ 110 * q + (46 - m) → r ≡ join (half_at s t p (64 * q)) (half_at s t p (64 * q + 1)) (16 + m)
-      → r ≡ field_at (word_lanes s) (440 * (3 * p + t) + o) 64
-  inside q m o hq hm e er =
-      let b = 440 * (3 * p + t) + 110 * q in
-      word_inside (word_lanes s) b _ _ (small _) (third_word q b hq refl) m _ hm er (omega arith)
+-- 64 bits of such words: before the last m bits of one, or its last m and then the first of the next
+inside : {a : List ℕ} {b hi lo : ℕ} → WordFrom a b hi lo → (m c : ℕ) {r : ℕ} → m < 47 → r ≡ join hi lo (16 + m) → b + (46 - m) ≡ c → r ≡ field_at a c 64
+inside W m c h er ec = word_inside _ _ _ _ W.small W.is m c h er ec
 
-  across : (q m o : ℕ) {r : ℕ} → q < 3 → 1 < m → m < 49 → o ≡ 110 * q + (110 - m) → r ≡ across_of (half_at s t p (64 * q + 1)) (half_at s t p (64 * (q + 1))) m
-      → r ≡ field_at (word_lanes s) (440 * (3 * p + t) + o) 64
-  across q m o hq h k e er =
-      let b = 440 * (3 * p + t) + 110 * q in
-      word_across (word_lanes s) b (half_at s t p (64 * q)) _ _ (half_at s t p (64 * (q + 1) + 1)) (small _) (small _) (third_word q b (omega arith) refl)
-      (third_word (q + 1) (b + 110) (omega arith) (omega arith)) m _ h k er (omega arith)
+between : {a : List ℕ} {b b' hi lo hi' lo' : ℕ} → WordFrom a b hi lo → WordFrom a b' hi' lo' → (m c : ℕ) {r : ℕ} → b' ≡ b + 110 → 1 < m → m < 49
+    → r ≡ across_of lo hi' m → b + (110 - m) ≡ c → r ≡ field_at a c 64
+between {a} W V m c e h k er ec =
+    word_across a _ _ _ _ _ W.small V.small W.is (ap (λ (i : ℕ). field_at a i 110) (sym e) ∙ V.is) m c h k er ec
 
-  -- the seven numbers
-  pub join_law : {n₀ n₁ n₂ n₃ n₄ n₅ n₆ : ℕ} → n₀ ≡ join (get_or s (2 * (128 * t + p)) 0) (half_at s t p 1) 62
-      → n₁ ≡ across_of (half_at s t p 1) (half_at s t p 64) 46 → n₂ ≡ join (half_at s t p 64) (half_at s t p 65) 44
-      → n₃ ≡ across_of (half_at s t p 65) (half_at s t p 128) 28 → n₄ ≡ join (half_at s t p 128) (half_at s t p 129) 26
-      → n₅ ≡ across_of (half_at s t p 129) (half_at s t p 192) 10 → n₆ ≡ join (half_at s t p 192) (half_at s t p 193) 16
-      → n₀ ∷ n₁ ∷ n₂ ∷ n₃ ∷ n₄ ∷ n₅ ∷ n₆ ∷ [] ≡ tabulate 7 (number_at (word_lanes s) (3 * p + t))
-  unfolding tabulate number_at
-  join_law e₀ e₁ e₂ e₃ e₄ e₅ e₆ =
-      let zero = ap (λ (i : ℕ). join (get_or s i 0) (half_at s t p 1) 62) (sym (add-zero (2 * (128 * t + p)))) in
-      let f₀ = inside 0 46 0 (lit< tt) (lit< tt) refl (e₀ ∙ zero) in
-      let f₁ = across 0 46 64 (lit< tt) (lit< tt) (lit< tt) refl e₁ in
-      let f₂ = inside 1 28 128 (lit< tt) (lit< tt) refl e₂ in
-      let f₃ = across 1 28 192 (lit< tt) (lit< tt) (lit< tt) refl e₃ in
-      let f₄ = inside 2 10 256 (lit< tt) (lit< tt) refl e₄ in
-      let f₅ = across 2 10 320 (lit< tt) (lit< tt) (lit< tt) refl e₅ in
-      let f₆ = inside 3 0 376 (lit< tt) (lit< tt) refl e₆ in
-      λ k. f₀ k ∷ f₁ k ∷ f₂ k ∷ f₃ k ∷ f₄ k ∷ f₅ k ∷ f₆ k ∷ []
+-- the seven numbers out of the four words
+pub join_law : (a : List ℕ) (p t : ℕ) {h₀ l₀ h₁ l₁ h₂ l₂ h₃ l₃ n₀ n₁ n₂ n₃ n₄ n₅ n₆ : ℕ}
+    → let from : ℕ → ℕ = λ q. 1320 * p + 440 * t + 110 * q in
+    WordFrom a (from 0) h₀ l₀ → WordFrom a (from 1) h₁ l₁ → WordFrom a (from 2) h₂ l₂ → WordFrom a (from 3) h₃ l₃
+    → n₀ ≡ join h₀ l₀ 62 → n₁ ≡ across_of l₀ h₁ 46 → n₂ ≡ join h₁ l₁ 44 → n₃ ≡ across_of l₁ h₂ 28
+    → n₄ ≡ join h₂ l₂ 26 → n₅ ≡ across_of l₂ h₃ 10 → n₆ ≡ join h₃ l₃ 16
+    → n₀ ∷ n₁ ∷ n₂ ∷ n₃ ∷ n₄ ∷ n₅ ∷ n₆ ∷ [] ≡ tabulate 7 (number_at a p t)
+unfolding tabulate number_at
+join_law a p t W₀ W₁ W₂ W₃ e₀ e₁ e₂ e₃ e₄ e₅ e₆ =
+    let b = 1320 * p + 440 * t in
+    let f₀ = inside W₀ 46 (b + 0) (lit< tt) e₀ (omega arith) in
+    let f₁ = between W₀ W₁ 46 (b + 64) (omega arith) (lit< tt) (lit< tt) e₁ (omega arith) in
+    let f₂ = inside W₁ 28 (b + 128) (lit< tt) e₂ (omega arith) in
+    let f₃ = between W₁ W₂ 28 (b + 192) (omega arith) (lit< tt) (lit< tt) e₃ (omega arith) in
+    let f₄ = inside W₂ 10 (b + 256) (lit< tt) e₄ (omega arith) in
+    let f₅ = between W₂ W₃ 10 (b + 320) (omega arith) (lit< tt) (lit< tt) e₅ (omega arith) in
+    let f₆ = inside W₃ 0 (b + 376) (lit< tt) e₆ (omega arith) in
+    λ k. f₀ k ∷ f₁ k ∷ f₂ k ∷ f₃ k ∷ f₄ k ∷ f₅ k ∷ f₆ k ∷ []
 
 -- ---- the bytes of a third
 
@@ -124,54 +122,24 @@ eight_byte a B b m q h e ev =
     let all : 64 ≡ 8 * q + 8 + k = omega arith in
     ap (λ (x : ℕ). x / 2 ^ k % 2 ^ 8) (ev ∙ ap (field_at a b) all) ∙ field_middle a b (8 * q) 8 k ∙ ap (λ (i : ℕ). field_at a i 8) e ∙ byte_field a B m
 
--- the list l of k bytes begins with the first n bytes of third g of the lanes a
-pub record Begun (a : List ℕ) (g k n : ℕ) (l : List ℕ) : Type 0 where
-  pub long : length l ≡ k
-  pub is : (c : ℕ) → c < n → get_or l c 0 ≡ third_byte a g c
+module _ {a : List ℕ} where
+  -- as many, in other words
+  pub written_as : {n m : ℕ} {l : List ℕ} → n ≡ m → Written a n l → Written a m l
+  written_as {l = l} e W = subst (λ (k : ℕ). Written a k l) e W
 
-module _ {a : List ℕ} {g : ℕ} where
-  -- none of them yet
-  pub begun_start : {k : ℕ} {l : List ℕ} → length l ≡ k → Begun a g k 0 l
-  begun_start e = record { long = e; is = λ c h. absurd (not-suc-le-zero h) }
-
-  -- those of number j from byte o on
-  pub begun_put : {k n : ℕ} {d l seven : List ℕ} (j o m : ℕ) → AllBytes a → seven ≡ tabulate 7 (number_at a g) → j < 7 → o ≡ 8 * j - j / 6 → o ≤ n → m ≡ o + 8
-      → Begun a g k n d → Put 8 (get_or seven j 0) o d l → Begun a g k m l
-  unfolding number_at
-  begun_put {k} {n} {d} {l} {seven} j o m A es hj eo ho em B P = record { long = P.long ∙ B.long; is = λ c b. at c (dec_lt c o) b }
+  -- those of number j of a third, from byte o on
+  pub written_put : (p t : ℕ) {n o : ℕ} {d l ns : List ℕ} (j m : ℕ) → AllBytes a → ns ≡ tabulate 7 (number_at a p t) → j < 7
+      → o ≡ 165 * p + 55 * t + 8 * j - j / 6 → o ≤ n → m ≡ o + 8 → Written a n d → Put 8 (get_or ns j 0) o d l → Written a m l
+  written_put p t {n} {o} {d} {l} {ns} j m A es hj eo ho em W P = record { long = P.long ∙ W.long; is = λ c b. at c (dec_lt c o) b }
     where
-      number : get_or seven j 0 ≡ field_at a (440 * g + (64 * j - 8 * (j / 6))) 64
-      number = ap (λ (s : List ℕ). get_or s j 0) es ∙ get_d_tabulate 7 (number_at a g) j 0 hj
-
-      at : (c : ℕ) → Dec (c < o) → c < m → get_or l c 0 ≡ third_byte a g c
-      at c (yes q) b = P.before c q ∙ B.is c (omega arith)
+      at : (c : ℕ) → Dec (c < o) → c < m → get_or l c 0 ≡ get_or a c 0
+      at c (yes q) b = P.before c q ∙ W.is c (omega arith)
       at c (no q) b =
           let e : o + (c - o) ≡ c = omega arith in
           ap (λ (i : ℕ). get_or l i 0) (sym e) ∙ put_byte P (c - o) (omega arith)
-          ∙ eight_byte a A (440 * g + (64 * j - 8 * (j / 6))) (55 * g + c) (c - o) (omega arith) (omega arith) number
-
-  -- all of them
-  pub begun_done : {k n : ℕ} {l : List ℕ} → Begun a g k n l → k ≤ n → l ≡ tabulate k (third_byte a g)
-  begun_done {k} {n} {l} B h = is_tabulate 0 l k _ B.long (λ c b. B.is c (omega arith))
-
--- ---- the thirds of a lane, and the lanes, one after the other
-
--- third t of lane p in its place
-pub third_step : (a : List ℕ) (t p i : ℕ) {n : ℕ} {out₀ out part : List ℕ} → t < 3 → i ≡ 55 * t → n ≡ 165 → Filling (lane_byte a p) n out₀ out i
-    → part ≡ tabulate (length (take (i + 55 - i) (drop i out))) (third_byte a (3 * p + t))
-    → Filling (lane_byte a p) n out₀ (take i out ++ (part ++ drop (i + 55 - i) (drop i out))) (i + 55)
-third_step a t p i {part = part} h ei en F q =
-    filling_put (lane_byte a p) (i + 55) part (λ _. third_byte a (3 * p + t)) F (omega arith) (omega arith) q
-    (λ k b. let place : 55 * (3 * p + t) + k ≡ 165 * p + (i + k) = omega arith in ap (λ (m : ℕ). get_or a m 0) place)
-
--- lane p in its place
-pub lane_step : (a : List ℕ) (p : ℕ) {lanes₀ lanes part : List ℕ} → p < 32 → Filling (λ m. get_or a m 0) 5280 lanes₀ lanes (165 * p)
-    → part ≡ tabulate (length (take (165 * p + 165 - 165 * p) (drop (165 * p) lanes))) (lane_byte a p)
-    → Filling (λ m. get_or a m 0) 5280 lanes₀ (take (165 * p) lanes ++ (part ++ drop (165 * p + 165 - 165 * p) (drop (165 * p) lanes))) (165 * (p + 1))
-lane_step a p {part = part} h F q =
-    let next : 165 * p + 165 ≡ 165 * (p + 1) = omega arith in
-    subst (Filling _ 5280 _ _) next (filling_put _ (165 * p + 165) part (λ _. lane_byte a p) F (omega arith) (omega arith) q (λ k b. refl))
+          ∙ eight_byte a A (8 * o) c (c - o) (omega arith) (omega arith) (number_of a p t es j (8 * o) hj (omega arith))
 
 -- all of them
-pub lanes_done : {a lanes₀ lanes : List ℕ} {i : ℕ} → Filling (λ m. get_or a m 0) 5280 lanes₀ lanes i → 5280 ≤ i → length a ≡ 5280 → lanes ≡ a
-lanes_done {a} F h e = filling_done _ F h ∙ sym (is_tabulate 0 a 5280 _ e (λ m b. refl))
+pub written_done : (s : List ℕ) {l : List ℕ} {n : ℕ} → Written (word_lanes s) n l → 5280 ≤ n → l ≡ word_lanes s
+written_done s W h =
+    is_tabulate 0 _ 5280 _ W.long (λ m b. W.is m (omega arith)) ∙ sym (is_tabulate 0 (word_lanes s) 5280 _ (lanes_length s) (λ m b. refl))

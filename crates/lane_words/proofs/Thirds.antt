@@ -1,48 +1,52 @@
 -- From a frame's lanes to its words: the seven numbers of a third of a lane, the four words that they are, and the row in which the words are placed.
--- `Split` is the invariant; the measure is the lanes that are left.
 -- Assumes nothing.
-use mathlib.Core.Path.{◌≡◌, refl, sym, ap, ap₂, ◌∙◌, subst}
+use mathlib.Core.Path.{◌≡◌, sym, ap, ap₂, ◌∙◌, subst}
 use mathlib.Core.Logic.{◌≢◌}
 use mathlib.Core.Bool.{cond}
 use mathlib.Core.List.{List}
 use Prim.Native.Nat.{ℕ, ◌+◌, ◌-◌, ◌*◌, ◌/◌, ◌%◌, ◌^◌, ◌<◌}
-use native.Mathlib.Nat.{not-suc-le-zero}
 use native.Mathlib.Decide.{ℕ_discrete}
 use native.Mathlib.Omega.{arith}
-use mir.Syntax.{w64}
-use mir.Val.{Fits}
-use lib.Dec.{eqb}
+use lib.Dec.{eqb, lit<}
 use lib.ListN.{length, get_or, set, length-set}
 use lib.Seq.{get_or-set_same, get_or-set_other}
-use Rattle.bits.specs.definitions.Bits.{field_at}
+use borrow.Author.Count.{below_none, below_more}
+use Rattle.bits.specs.definitions.Bits.{tabulate, field_at, loaded_at}
 use Rattle.bits.specs.definitions.Words.{half_of}
+use Rattle.bits.proofs.Joins.{loaded_is}
 use Rattle.bits.proofs.Tabulate.{get_d_tabulate, is_tabulate}
 use Rattle.bits.proofs.Fields.{field_join, field_top, field_low}
 use Rattle.lane_words.specs.definitions.LaneWords.{information_at, lane_words}
-use Rattle.lane_words.specs.private.Thirds.{number_at, first_at, last_at, Numbers, with_word, word_place, Placed, Split}
+use Rattle.lane_words.specs.private.Thirds.{number_at, with_word, word_place, Placed}
 use Rattle.lane_words.proofs.LaneWords.{field_middle, word_law, joined_fields}
 
--- ---- the numbers of the thirds
-
--- number j of third g begins at bit b
-pub number_is : (a : List ℕ) (g j b : ℕ) → b ≡ 440 * g + (64 * j - 8 * (j / 6)) → field_at a b 64 ≡ number_at a g j
+-- number j of third t of lane p begins at bit b
+pub number_is : (a : List ℕ) (p t j b : ℕ) → b ≡ 1320 * p + 440 * t + (64 * j - 8 * (j / 6)) → field_at a b 64 ≡ number_at a p t j
 unfolding number_at
-number_is a g j b e = ap (λ (k : ℕ). field_at a k 64) e
+number_is a p t j b e = ap (λ (k : ℕ). field_at a k 64) e
 
--- and of the first six, where they all are counted
-pub first_is : (a : List ℕ) (g j b : ℕ) → j < 6 → b ≡ 440 * g + 64 * j → field_at a b 64 ≡ first_at a (6 * g + j)
-first_is a g j b h e =
-    let third : (6 * g + j) / 6 ≡ g = omega arith in
-    let place : (6 * g + j) % 6 ≡ j = omega arith in
-    rw (third, place) (number_is a g j b (omega arith))
+-- what is read as one
+abbrev pub ReadAt : List ℕ → ℕ → ℕ → List ℕ → ℕ → Type 0
+ReadAt a p t ns j = get_or ns j 0 ≡ loaded_at a (165 * p + 55 * t + 8 * j - j / 6)
 
-module _ {a firsts lasts : List ℕ} (N : Numbers a firsts lasts) where
-  first_at_lem : (m b : ℕ) {x : ℕ} → x ≡ get_or firsts m 0 → m < 576 → b ≡ 440 * (m / 6) + 64 * (m % 6) → x ≡ field_at a b 64
-  first_at_lem m b e h eb =
-      e ∙ ap (λ (s : List ℕ). get_or s m 0) N.firsts_are ∙ get_d_tabulate 576 (first_at a) m 0 h ∙ sym (number_is a (m / 6) (m % 6) b (omega arith))
+-- all seven
+pub numbers_law : (a : List ℕ) (p t : ℕ) (ns : List ℕ) → length a ≡ 5280 → p < 32 → t < 3 → length ns ≡ 7 → ReadAt a p t ns 0 → ReadAt a p t ns 1 → ReadAt a p t ns 2
+    → ReadAt a p t ns 3 → ReadAt a p t ns 4 → ReadAt a p t ns 5 → ReadAt a p t ns 6 → ns ≡ tabulate 7 (number_at a p t)
+numbers_law a p t ns la hp ht ln r₀ r₁ r₂ r₃ r₄ r₅ r₆ = is_tabulate 0 ns 7 (number_at a p t) ln at
+  where
+    read : (j : ℕ) → j < 7 → ReadAt a p t ns j
+    read =
+        let P : ℕ → Type 0 = ReadAt a p t ns in
+        below_more P 6 (below_more P 5 (below_more P 4 (below_more P 3 (below_more P 2 (below_more P 1 (below_more P 0 (below_none P) r₀) r₁) r₂) r₃) r₄) r₅) r₆
 
-  last_at_lem : (g b : ℕ) {x : ℕ} → x ≡ get_or lasts g 0 → g < 96 → b ≡ 440 * g + 376 → x ≡ field_at a b 64
-  last_at_lem g b e h eb = e ∙ ap (λ (s : List ℕ). get_or s g 0) N.lasts_are ∙ get_d_tabulate 96 (last_at a) g 0 h ∙ sym (number_is a g 6 b eb)
+    at : (j : ℕ) → j < 7 → get_or ns j 0 ≡ number_at a p t j
+    at j h = read j h ∙ loaded_is a _ (omega arith) ∙ number_is a p t j _ (omega arith)
+
+-- and each of them
+pub number_of : (a : List ℕ) (p t : ℕ) {ns : List ℕ} → ns ≡ tabulate 7 (number_at a p t) → (j b : ℕ) → j < 7 → b ≡ 1320 * p + 440 * t + (64 * j - 8 * (j / 6))
+    → get_or ns j 0 ≡ field_at a b 64
+number_of a p t {ns} e j b h eb =
+    ap (λ (s : List ℕ). get_or s j 0) e ∙ get_d_tabulate 7 (number_at a p t) j 0 h ∙ sym (number_is a p t j b eb)
 
 -- what `joined` gives
 abbrev pub join : ℕ → ℕ → ℕ → ℕ
@@ -72,8 +76,9 @@ top_48 a b e = ap (λ (v : ℕ). v / 2 ^ 16) e ∙ field_top a b 48 16
 -- ---- the row of words
 
 module _ {a w : List ℕ} where
-  pub placed_start : length w ≡ 768 → Placed a 0 w
-  placed_start e = record { long = e; upper = λ j l. absurd (not-suc-le-zero l); lower = λ j l. absurd (not-suc-le-zero l) }
+  -- as many, in other words
+  pub placed_as : {n m : ℕ} → n ≡ m → Placed a n w → Placed a m w
+  placed_as e P = subst (λ (k : ℕ). Placed a k w) e P
 
   -- one word more, which is word k of lane p
   pub placed_step : {n : ℕ} (k p x y : ℕ) → Placed a n w → n ≡ 12 * p + k → k < 12 → p < 32
@@ -137,73 +142,39 @@ module _ {a w : List ℕ} where
           let q : i % 2 ≡ 1 = omega arith in
           rw q (ap (λ (k : ℕ). get_or w k 0) e ∙ P.lower j (omega arith) ∙ ap (λ (k : ℕ). field_at a k 110 * 2 ^ 16 % 2 ^ 64) f)
 
--- ---- the words of the thirds
+-- ---- the words of a third
 
--- word k of the four of third t is one of a lane's twelve
-pub word_lt : (t k : ℕ) → t < 3 → k < 4 → 4 * t + k < 12
-word_lt t k ht hk = omega arith
-
--- and its number fits
-pub word_fits : (t k : ℕ) → t < 3 → k < 4 → Fits w64 (4 * t + k)
-word_fits t k ht hk = record { fits = omega arith }
-
--- the four words of third t of lane p
-pub split_law : {firsts lasts w₀ w₁ w₂ w₃ w : List ℕ} {t p n₀ n₁ n₂ n₃ n₄ n₅ z y₀ x₁ y₁ x₂ y₂ x₃ : ℕ} → t < 3 → p < 32 → length w ≡ 768
-    → n₀ ≡ get_or firsts (6 * (3 * p + t)) 0 → n₁ ≡ get_or firsts (6 * (3 * p + t) + 1) 0 → n₂ ≡ get_or firsts (6 * (3 * p + t) + 2) 0
-    → n₃ ≡ get_or firsts (6 * (3 * p + t) + 3) 0 → n₄ ≡ get_or firsts (6 * (3 * p + t) + 4) 0 → n₅ ≡ get_or firsts (6 * (3 * p + t) + 5) 0
-    → z ≡ get_or lasts (3 * p + t) 0
-    → y₀ ≡ join n₀ n₁ 2 → w₁ ≡ with_word w₀ (4 * t) p n₀ y₀
-    → x₁ ≡ join n₁ n₂ 18 → y₁ ≡ join n₂ n₃ 20 → w₂ ≡ with_word w₁ (4 * t + 1) p x₁ y₁
-    → x₂ ≡ join n₃ n₄ 36 → y₂ ≡ join n₄ n₅ 38 → w₃ ≡ with_word w₂ (4 * t + 2) p x₂ y₂
-    → x₃ ≡ join n₅ (z * 2 ^ 8 % 2 ^ 64) 54 → w ≡ with_word w₃ (4 * t + 3) p x₃ (z * 2 ^ 16 % 2 ^ 64)
-    → Split firsts lasts (12 * p + 4 * t) (12 * p + 4 * t + 4) w₀ w
-split_law {firsts} {lasts} {w₀} {w₁} {w₂} {w₃} {w} {t} {p} ht hp long e₀ e₁ e₂ e₃ e₄ e₅ ez a₀ s₀ a₁ b₁ s₁ a₂ b₂ s₂ a₃ s₃ =
-    record { long = long; words = words }
-  where
-    g : ℕ
-    g = 3 * p + t
-
-    m : ℕ
-    m = 12 * p + 4 * t
-
-    words : {a : List ℕ} → Numbers a firsts lasts → Placed a m w₀ → Placed a (m + 4) w
-    words {a} N P₀ =
-        let b = 110 * m in
-        let f₀ = first_at_lem N (6 * g) b e₀ (omega arith) (omega arith) in
-        let f₁ = first_at_lem N (6 * g + 1) (b + 64) e₁ (omega arith) (omega arith) in
-        let f₂ = first_at_lem N (6 * g + 2) (b + 64 + 64) e₂ (omega arith) (omega arith) in
-        let f₃ = first_at_lem N (6 * g + 3) (b + 64 + 64 + 64) e₃ (omega arith) (omega arith) in
-        let f₄ = first_at_lem N (6 * g + 4) (b + 64 + 64 + 64 + 64) e₄ (omega arith) (omega arith) in
-        let f₅ = first_at_lem N (6 * g + 5) (b + 64 + 64 + 64 + 64 + 64) e₅ (omega arith) (omega arith) in
-        let fz = last_at_lem N g (b + 64 + 64 + 64 + 64 + 64 + 56) ez (omega arith) (omega arith) in
-        let P₁ =
-        placed_step (4 * t) p _ _ P₀ refl (omega arith) hp f₀
-        (top_48 a (110 * m + 62) (joined_fields a b 2 (110 * m + 62) (omega arith) f₀ f₁ a₀ (omega arith))) in
-        let P₂ =
-        placed_step (4 * t + 1) p _ _ (subst (Placed a (m + 1)) (sym s₀) P₁) (omega arith) (omega arith) hp
-        (joined_fields a (b + 64) 18 (110 * (m + 1)) (omega arith) f₁ f₂ a₁ (omega arith))
-        (top_48 a (110 * (m + 1) + 62) (joined_fields a (b + 64 + 64) 20 (110 * (m + 1) + 62) (omega arith) f₂ f₃ b₁ (omega arith))) in
-        let P₃ =
-        placed_step (4 * t + 2) p _ _ (subst (Placed a (m + 1 + 1)) (sym s₁) P₂) (omega arith) (omega arith) hp
-        (joined_fields a (b + 64 + 64 + 64) 36 (110 * (m + 1 + 1)) (omega arith) f₃ f₄ a₂ (omega arith))
-        (top_48 a (110 * (m + 1 + 1) + 62) (joined_fields a (b + 64 + 64 + 64 + 64) 38 (110 * (m + 1 + 1) + 62) (omega arith) f₄ f₅ b₂ (omega arith))) in
-        let P₄ =
-        placed_step (4 * t + 3) p _ _ (subst (Placed a (m + 1 + 1 + 1)) (sym s₂) P₃) (omega arith) (omega arith) hp
-        (joined_last a (b + 64 + 64 + 64 + 64 + 64) (110 * (m + 1 + 1 + 1)) fz f₅ a₃ (omega arith))
-        (low_last a (b + 64 + 64 + 64 + 64 + 64) (110 * (m + 1 + 1 + 1) + 62) fz (omega arith)) in
-        let four : m + 1 + 1 + 1 + 1 ≡ m + 4 = omega arith in
-        subst (λ (n : ℕ). Placed a n w) four (subst (Placed a (m + 1 + 1 + 1 + 1)) (sym s₃) P₄)
-
--- ---- one after the other
-
-pub split_start : (firsts lasts w : List ℕ) → length w ≡ 768 → Split firsts lasts 0 0 w w
-split_start firsts lasts w e = record { long = e; words = λ N P. P }
-
-pub split_then : {firsts lasts w₀ w₁ w : List ℕ} {l m m' n n' : ℕ} → Split firsts lasts l m w₀ w₁ → Split firsts lasts m' n' w₁ w → m ≡ m' → n' ≡ n
-    → Split firsts lasts l n w₀ w
-split_then {w₁ = w₁} {w = w} S T p q =
-    record { long = T.long; words = λ {a} N P. subst (λ (k : ℕ). Placed a k w) q (T.words N (subst (λ (k : ℕ). Placed a k w₁) p (S.words N P))) }
-
--- all the words
-pub split_done : {a firsts lasts w₀ w : List ℕ} → Split firsts lasts 0 384 w₀ w → Numbers a firsts lasts → length w₀ ≡ 768 → w ≡ lane_words a
-split_done S N e = placed_done (S.words N (placed_start e))
+-- the four words of a third, whose numbers are ns
+pub split_law : (a : List ℕ) (p t : ℕ) {ns w₀ w₁ w₂ w₃ w : List ℕ} {y₀ x₁ y₁ x₂ y₂ x₃ : ℕ} → p < 32 → t < 3 → ns ≡ tabulate 7 (number_at a p t)
+    → let n : ℕ → ℕ = λ j. get_or ns j 0 in
+    y₀ ≡ join (n 0) (n 1) 2 → w₁ ≡ with_word w₀ (4 * t + 0) p (n 0) y₀
+    → x₁ ≡ join (n 1) (n 2) 18 → y₁ ≡ join (n 2) (n 3) 20 → w₂ ≡ with_word w₁ (4 * t + 1) p x₁ y₁
+    → x₂ ≡ join (n 3) (n 4) 36 → y₂ ≡ join (n 4) (n 5) 38 → w₃ ≡ with_word w₂ (4 * t + 2) p x₂ y₂
+    → x₃ ≡ join (n 5) (n 6 * 2 ^ 8 % 2 ^ 64) 54 → w ≡ with_word w₃ (4 * t + 3) p x₃ (n 6 * 2 ^ 16 % 2 ^ 64)
+    → Placed a (12 * p + 4 * t) w₀ → Placed a (12 * p + 4 * t + 4) w
+split_law a p t {ns} {w₀} {w₁} {w₂} {w₃} {w} hp ht e a₀ s₀ a₁ b₁ s₁ a₂ b₂ s₂ a₃ s₃ P₀ =
+    let m = 12 * p + 4 * t in
+    let b = 110 * m in
+    let f₀ = number_of a p t e 0 b (lit< tt) (omega arith) in
+    let f₁ = number_of a p t e 1 (b + 64) (lit< tt) (omega arith) in
+    let f₂ = number_of a p t e 2 (b + 64 + 64) (lit< tt) (omega arith) in
+    let f₃ = number_of a p t e 3 (b + 64 + 64 + 64) (lit< tt) (omega arith) in
+    let f₄ = number_of a p t e 4 (b + 64 + 64 + 64 + 64) (lit< tt) (omega arith) in
+    let f₅ = number_of a p t e 5 (b + 64 + 64 + 64 + 64 + 64) (lit< tt) (omega arith) in
+    let f₆ = number_of a p t e 6 (b + 64 + 64 + 64 + 64 + 64 + 56) (lit< tt) (omega arith) in
+    let P₁ =
+    placed_step (4 * t + 0) p _ _ P₀ (omega arith) (omega arith) hp f₀
+    (top_48 a (110 * m + 62) (joined_fields a b 2 (110 * m + 62) (omega arith) f₀ f₁ a₀ (omega arith))) in
+    let P₂ =
+    placed_step (4 * t + 1) p _ _ (subst (Placed a (m + 1)) (sym s₀) P₁) (omega arith) (omega arith) hp
+    (joined_fields a (b + 64) 18 (110 * (m + 1)) (omega arith) f₁ f₂ a₁ (omega arith))
+    (top_48 a (110 * (m + 1) + 62) (joined_fields a (b + 64 + 64) 20 (110 * (m + 1) + 62) (omega arith) f₂ f₃ b₁ (omega arith))) in
+    let P₃ =
+    placed_step (4 * t + 2) p _ _ (subst (Placed a (m + 1 + 1)) (sym s₁) P₂) (omega arith) (omega arith) hp
+    (joined_fields a (b + 64 + 64 + 64) 36 (110 * (m + 1 + 1)) (omega arith) f₃ f₄ a₂ (omega arith))
+    (top_48 a (110 * (m + 1 + 1) + 62) (joined_fields a (b + 64 + 64 + 64 + 64) 38 (110 * (m + 1 + 1) + 62) (omega arith) f₄ f₅ b₂ (omega arith))) in
+    let P₄ =
+    placed_step (4 * t + 3) p _ _ (subst (Placed a (m + 1 + 1 + 1)) (sym s₂) P₃) (omega arith) (omega arith) hp
+    (joined_last a (b + 64 + 64 + 64 + 64 + 64) (110 * (m + 1 + 1 + 1)) f₆ f₅ a₃ (omega arith))
+    (low_last a (b + 64 + 64 + 64 + 64 + 64) (110 * (m + 1 + 1 + 1) + 62) f₆ (omega arith)) in
+    placed_as (omega arith) (subst (Placed a (m + 1 + 1 + 1 + 1)) (sym s₃) P₄)

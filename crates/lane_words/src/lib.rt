@@ -2,47 +2,20 @@
 // Word 32 k + p is word k of lane p. In the order of the lanes it is word 12 p + k, whose first bit is bit 110 (12 p + k) of the frame.
 #![tactic(auto)]
 
-ghost use Rattle.std.specs.Prelude.{◌≡◌, ◌+◌, ◌*◌, ◌-◌, ◌/◌, ◌%◌, ◌^◌, ◌<◌, ◌≤◌, length};
-ghost use Rattle.bits.specs.definitions.Bits.{tabulate, field_at};
+ghost use Rattle.std.specs.Prelude.{◌≡◌, ◌+◌, ◌*◌, ◌-◌, ◌/◌, ◌%◌, ◌^◌, ◌<◌, ◌≤◌, get_or};
+ghost use Rattle.bits.specs.definitions.Bits.{tabulate};
 ghost use Rattle.lane_words.specs.definitions.LaneWords.{lane_words, word_lanes};
-ghost use Rattle.lane_words.specs.private.Thirds.{first_at, last_at, with_word, Split, across_of, number_at, third_byte, lane_byte};
+ghost use Rattle.lane_words.specs.private.Thirds.{number_at, word_place, with_word, Placed, across_of, Written};
 
-// The six numbers from byte o on, each of eight bytes.
-fn read_six(s: &[u8], o: usize, six: &mut [u64])
-    requires { (o + 48 ≤ length s.now) × (length six.old ≡ 6) }
-    ensures { six.new ≡ tabulate (length six.old) (λ i. field_at s.now (8 * o + 64 * i) 64) }
-{
-    let mut i: usize = 0;
-    while i < 6 {
-        six[i] = bits::load(s, o + 8 * i);
-        i += 1;
-    }
-}
+use bits::Word;
+use std::array;
 
-// The first six numbers of each third of a lane, which is four words in 55 bytes.
-fn read_firsts(lanes: &[u8], firsts: &mut [u64])
-    requires { (length lanes.now ≡ 5280) × (length firsts.old ≡ 576) }
-    ensures { firsts.new ≡ tabulate 576 (first_at lanes.now) }
-{
-    let mut g: usize = 0;
-    while g < 96 {
-        let at = 6 * g;
-        let end = at + 6;
-        read_six(lanes, 55 * g, &mut firsts[at..end]);
-        g += 1;
-    }
-}
-
-// The last eight bytes of each, as its seventh number. They share a byte with the sixth: in one loop the compiler would move both byte by byte.
-fn read_lasts(lanes: &[u8], lasts: &mut [u64])
-    requires { (length lanes.now ≡ 5280) × (length lasts.old ≡ 96) }
-    ensures { lasts.new ≡ tabulate 96 (last_at lanes.now) }
-{
-    let mut g: usize = 0;
-    while g < 96 {
-        lasts[g] = bits::load(lanes, 55 * g + 47);
-        g += 1;
-    }
+// Third t of lane p: four words in 55 bytes. They are seven numbers of 64 bits that follow each other, but for the last, which begins a byte sooner.
+#[derive(Clone, Copy)]
+struct Third {
+    p: usize,
+    t: usize,
+    ghost bounded: { (p < 32) × (t < 3) },
 }
 
 // The last a bits of one number, and then the first 64 - a of the next.
@@ -53,131 +26,111 @@ fn joined(x: u64, y: u64, a: u64) -> u64
     (x << (64 - a)) | (y >> a)
 }
 
-// Word k of lane p, with parity bits 0: the first 62 bits of x, and then the first 48 of y.
-fn put_word(words: &mut [u64], k: usize, p: usize, x: u64, y: u64)
-    requires { (length words.old ≡ 768) × (k < 12) × (p < 32) }
-    ensures { (words.new ≡ with_word words.old k p x y) × (length words.new ≡ 768) }
+// The last a bits of a word's information, and then the first 64 - a of the next word's.
+fn across(word: Word, next: Word, a: u64) -> u64
+    requires { (0 < a) × (a < 64) }
+    ensures { result ≡ across_of word.lo next.hi a }
 {
-    let at = 2 * (32 * k + p);
-    words[at] = x / 4;
-    words[at + 1] = y / 65536 * 65536;
+    joined(word.lo >> 16, next.hi << 2, a)
 }
 
-// Third t of lane p as four words. Word j of the four begins 18 j bits before number 2 j, counted from 0; the last number begins 8 bits before number 6.
-fn split_third(firsts: &[u64; 576], lasts: &[u64; 96], t: usize, p: usize, words: &mut [u64])
-    requires { (length words.old ≡ 768) × (t < 3) × (p < 32) }
-    ensures { Split firsts.now lasts.now (12 * p + 4 * t) (12 * p + 4 * t + 4) words.old words.new }
-{
-    let g = 3 * p + t;
-    let m = 6 * g;
-    let n0 = firsts[m];
-    let n1 = firsts[m + 1];
-    let n2 = firsts[m + 2];
-    let n3 = firsts[m + 3];
-    let n4 = firsts[m + 4];
-    let n5 = firsts[m + 5];
-    let last = lasts[g];
-    let k = 4 * t;
-    put_word(words, k, p, n0, joined(n0, n1, 2));
-    put_word(words, k + 1, p, joined(n1, n2, 18), joined(n2, n3, 20));
-    put_word(words, k + 2, p, joined(n3, n4, 36), joined(n4, n5, 38));
-    put_word(words, k + 3, p, joined(n5, last << 8, 54), last << 16);
-}
+impl Third {
+    // The byte of the lanes that number j of the seven begins with.
+    fn start(self, j: usize) -> usize
+        requires { j < 7 }
+        ensures { result ≡ 165 * self.p + 55 * self.t + 8 * j - j / 6 }
+    {
+        165 * self.p + 55 * self.t + 8 * j - j / 6
+    }
 
-// Every lane's three thirds.
-fn split_lanes(firsts: &[u64; 576], lasts: &[u64; 96], words: &mut [u64])
-    requires { length words.old ≡ 768 }
-    ensures { Split firsts.now lasts.now 0 384 words.old words.new }
-{
-    let mut p: usize = 0;
-    while p < 32 {
-        split_third(firsts, lasts, 0, p, words);
-        split_third(firsts, lasts, 1, p, words);
-        split_third(firsts, lasts, 2, p, words);
-        p += 1;
+    // Where word j of the four stands in a row of numbers, two a word.
+    fn place(self, j: usize) -> usize
+        requires { j < 4 }
+        ensures { result ≡ 2 * word_place (4 * self.t + j) self.p }
+    {
+        let k = 4 * self.t + j;
+        2 * (32 * k + self.p)
+    }
+
+    // The seven numbers.
+    fn numbers(self, lanes: &[u8; 5280]) -> [u64; 7]
+        ensures { result ≡ tabulate 7 (number_at lanes.now self.p self.t) }
+    {
+        array::from_fn(|j| bits::load(lanes, self.start(j)))
+    }
+
+    // Word j, with parity bits 0: the first 62 bits of x, and then the first 48 of y.
+    fn put_word(self, words: &mut [u64; 768], j: usize, x: u64, y: u64)
+        requires { j < 4 }
+        ensures { words.new ≡ with_word words.old (4 * self.t + j) self.p x y }
+    {
+        let at = self.place(j);
+        words[at] = x / 4;
+        words[at + 1] = y / 65536 * 65536;
+    }
+
+    // The four words: word j begins 18 j bits before number 2 j, counted from 0; the last number begins 8 bits before number 6.
+    fn split(self, lanes: &[u8; 5280], words: &mut [u64; 768])
+        requires { Placed lanes.now (12 * self.p + 4 * self.t) words.old }
+        ensures { Placed lanes.now (12 * self.p + 4 * self.t + 4) words.new }
+    {
+        let [n0, n1, n2, n3, n4, n5, last] = self.numbers(lanes);
+        self.put_word(words, 0, n0, joined(n0, n1, 2));
+        self.put_word(words, 1, joined(n1, n2, 18), joined(n2, n3, 20));
+        self.put_word(words, 2, joined(n3, n4, 36), joined(n4, n5, 38));
+        self.put_word(words, 3, joined(n5, last << 8, 54), last << 16);
+    }
+
+    // Word j of the four.
+    fn word(self, words: &[u64; 768], j: usize) -> Word
+        requires { j < 4 }
+        ensures { let at = 2 * word_place (4 * self.t + j) self.p in (result.hi ≡ get_or words.now at 0) × (result.lo ≡ get_or words.now (at + 1) 0) }
+    {
+        let at = self.place(j);
+        Word {
+            hi: words[at],
+            lo: words[at + 1],
+        }
+    }
+
+    // The seven numbers out of the information of the four words.
+    fn join(self, words: &[u64; 768]) -> [u64; 7]
+        ensures { result ≡ tabulate 7 (number_at (word_lanes words.now) self.p self.t) }
+    {
+        let w0 = self.word(words, 0);
+        let w1 = self.word(words, 1);
+        let w2 = self.word(words, 2);
+        let w3 = self.word(words, 3);
+        [
+            joined(w0.hi, w0.lo, 62),
+            across(w0, w1, 46),
+            joined(w1.hi, w1.lo, 44),
+            across(w1, w2, 28),
+            joined(w2.hi, w2.lo, 26),
+            across(w2, w3, 10),
+            joined(w3.hi, w3.lo, 16),
+        ]
+    }
+
+    // The third of the lanes of a frame's words, where those before it are there.
+    fn write(self, words: &[u64; 768], lanes: &mut [u8; 5280])
+        requires { Written (word_lanes words.now) (165 * self.p + 55 * self.t) lanes.old }
+        ensures { Written (word_lanes words.now) (165 * self.p + 55 * self.t + 55) lanes.new }
+    {
+        for (j, number) in self.join(words).iter().enumerate() {
+            bits::put(lanes, self.start(j), *number);
+        }
     }
 }
 
-// The words of a frame's lanes, with parity bits 0. All numbers are read before one is split, so that the compiler makes one move of each.
+// The words of a frame's lanes, with parity bits 0. Lane by lane: a division of the thirds' number would take half as long again.
 pub fn to_words(lanes: &[u8; 5280], words: &mut [u64; 768])
     ensures { words.new ≡ lane_words lanes.now }
 {
-    let mut firsts = [0u64; 576];
-    read_firsts(lanes, &mut firsts);
-    let mut lasts = [0u64; 96];
-    read_lasts(lanes, &mut lasts);
-    split_lanes(&firsts, &lasts, words);
-}
-
-// The last a bits of the information of a word whose second number is lo, and then the first 64 - a of the next word, whose first is hi.
-fn across(lo: u64, hi: u64, a: u64) -> u64
-    requires { (0 < a) × (a < 64) }
-    ensures { result ≡ across_of lo hi a }
-{
-    joined(lo >> 16, hi << 2, a)
-}
-
-// The seven numbers of third t of lane p, out of the information of its four words.
-fn join_third(words: &[u64], t: usize, p: usize, seven: &mut [u64; 7])
-    requires { (length words.now ≡ 768) × (t < 3) × (p < 32) }
-    ensures { seven.new ≡ tabulate 7 (number_at (word_lanes words.now) (3 * p + t)) }
-{
-    let at = 2 * (128 * t + p);
-    let h0 = words[at];
-    let l0 = words[at + 1];
-    let h1 = words[at + 64];
-    let l1 = words[at + 65];
-    let h2 = words[at + 128];
-    let l2 = words[at + 129];
-    let h3 = words[at + 192];
-    let l3 = words[at + 193];
-    let n0 = joined(h0, l0, 62);
-    let n1 = across(l0, h1, 46);
-    let n2 = joined(h1, l1, 44);
-    let n3 = across(l1, h2, 28);
-    let n4 = joined(h2, l2, 26);
-    let n5 = across(l2, h3, 10);
-    let n6 = joined(h3, l3, 16);
-    *seven = [n0, n1, n2, n3, n4, n5, n6];
-}
-
-// Third t of lane p in its 55 bytes: the last number shares a byte with the sixth. All seven are joined before one is written, so that the compiler makes one
-// move of each.
-fn write_third(words: &[u64], t: usize, p: usize, seven: &mut [u64; 7], out: &mut [u8])
-    requires { (length words.now ≡ 768) × (length out.old ≡ 55) × (t < 3) × (p < 32) }
-    ensures { out.new ≡ tabulate (length out.old) (third_byte (word_lanes words.now) (3 * p + t)) }
-{
-    join_third(words, t, p, seven);
-    let mut j: usize = 0;
-    while j < 6 {
-        bits::put(out, 8 * j, seven[j]);
-        j += 1;
-    }
-    bits::put(out, 47, seven[6]);
-}
-
-// The three thirds of lane p, over seven numbers that are lent for each in turn.
-fn write_lane(words: &[u64], p: usize, seven: &mut [u64; 7], out: &mut [u8])
-    requires { (length words.now ≡ 768) × (length out.old ≡ 165) × (p < 32) }
-    ensures { out.new ≡ tabulate (length out.old) (lane_byte (word_lanes words.now) p) }
-{
-    write_third(words, 0, p, seven, &mut out[0..55]);
-    write_third(words, 1, p, seven, &mut out[55..110]);
-    write_third(words, 2, p, seven, &mut out[110..165]);
-}
-
-// Every lane.
-fn write_lanes(words: &[u64], lanes: &mut [u8])
-    requires { (length words.now ≡ 768) × (length lanes.old ≡ 5280) }
-    ensures { lanes.new ≡ word_lanes words.now }
-{
-    let mut seven = [0u64; 7];
-    let mut p: usize = 0;
-    while p < 32 {
-        let at = 165 * p;
-        let end = at + 165;
-        write_lane(words, p, &mut seven, &mut lanes[at..end]);
-        p += 1;
+    for p in 0..32 {
+        for t in 0..3 {
+            Third { p, t }.split(lanes, words);
+        }
     }
 }
 
@@ -185,5 +138,9 @@ fn write_lanes(words: &[u64], lanes: &mut [u8])
 pub fn to_lanes(words: &[u64; 768], lanes: &mut [u8; 5280])
     ensures { lanes.new ≡ word_lanes words.now }
 {
-    write_lanes(words, lanes);
+    for p in 0..32 {
+        for t in 0..3 {
+            Third { p, t }.write(words, lanes);
+        }
+    }
 }

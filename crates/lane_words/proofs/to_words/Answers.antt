@@ -1,7 +1,7 @@
--- `lane_words::to_words` meets its contract: the numbers of the lanes are read, and then split. Assumes nothing.
+-- `lane_words::to_words` meets its contract: all words are placed. Assumes nothing.
 use native.Mathlib.Omega.{arith}
-use Rattle.lane_words.proofs.Thirds.{split_done}
+use Rattle.lane_words.proofs.Thirds.{placed_as, placed_done}
 use Rattle.lane_words.proofs.to_words.Goals as goal
 
 pub returns : goal.returns
-returns c = split_done c.split_lanes.ensures (record { firsts_are = c.read_firsts.ensures; lasts_are = c.read_lasts.ensures }) (omega arith)
+returns c = placed_done (placed_as (omega arith) c.loop-p.invariant)

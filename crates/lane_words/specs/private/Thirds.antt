@@ -1,25 +1,12 @@
--- What the code's own functions say of the thirds of the lanes: a third is four words in 55 bytes, and third t of lane p is third 3 p + t of the frame. It is
--- read, and written, as seven numbers of 64 bits. No promise to a caller rests on a definition here.
+-- What the code's own functions say of the thirds of the lanes: a third is four words in 55 bytes, and it is read, and written, as seven numbers of 64 bits.
+-- No promise to a caller rests on a definition here.
 -- Assumes nothing.
 use Rattle.std.specs.Prelude.{◌≡◌, List, ℕ, ◌+◌, ◌*◌, ◌-◌, ◌/◌, ◌%◌, ◌^◌, ◌<◌, length, get_or, set}
-use Rattle.bits.specs.definitions.Bits.{tabulate, field_at}
+use Rattle.bits.specs.definitions.Bits.{field_at}
 
--- number j of the seven of third g: they follow each other from its first bit on, but the last begins eight bits sooner, and ends with the third
-unfoldable pub number_at : List ℕ → ℕ → ℕ → ℕ
-number_at a g j = field_at a (440 * g + (64 * j - 8 * (j / 6))) 64
-
--- the first six numbers of each third: number m of them all
-abbrev pub first_at : List ℕ → ℕ → ℕ
-first_at a m = number_at a (m / 6) (m % 6)
-
--- the last number of third g
-abbrev pub last_at : List ℕ → ℕ → ℕ
-last_at a g = number_at a g 6
-
--- the numbers of the lanes a
-pub record Numbers (a firsts lasts : List ℕ) : Type 0 where
-  pub firsts_are : firsts ≡ tabulate 576 (first_at a)
-  pub lasts_are : lasts ≡ tabulate 96 (last_at a)
+-- number j of the seven of third t of lane p: they follow each other from its first bit on, but the last begins eight bits sooner, and ends with the third
+unfoldable pub number_at : List ℕ → ℕ → ℕ → ℕ → ℕ
+number_at a p t j = field_at a (1320 * p + 440 * t + (64 * j - 8 * (j / 6))) 64
 
 -- where word k of lane p stands in a row
 abbrev pub word_place : ℕ → ℕ → ℕ
@@ -35,11 +22,6 @@ pub record Placed (a : List ℕ) (n : ℕ) (w : List ℕ) : Type 0 where
   pub upper : (j : ℕ) → j < n → get_or w (2 * word_place (j % 12) (j / 12)) 0 ≡ field_at a (110 * j) 110 * 2 ^ 16 / 2 ^ 64
   pub lower : (j : ℕ) → j < n → get_or w (2 * word_place (j % 12) (j / 12) + 1) 0 ≡ field_at a (110 * j) 110 * 2 ^ 16 % 2 ^ 64
 
--- the row w has the first n words, where w₀ had the first m, of whatever lanes the numbers are
-pub record Split (firsts lasts : List ℕ) (m n : ℕ) (w₀ w : List ℕ) : Type 0 where
-  pub long : length w ≡ 768
-  pub words : {a : List ℕ} → Numbers a firsts lasts → Placed a m w₀ → Placed a n w
-
 -- the information that a word's second number has: what stands before the parity
 abbrev pub information_in : ℕ → ℕ
 information_in lo = lo / 2 ^ 16
@@ -48,10 +30,7 @@ information_in lo = lo / 2 ^ 16
 abbrev pub across_of : ℕ → ℕ → ℕ → ℕ
 across_of lo hi a = information_in lo % 2 ^ a * 2 ^ (64 - a) + hi * 2 ^ 2 % 2 ^ 64 / 2 ^ a
 
--- byte c of third g, and of lane p
-abbrev pub third_byte : List ℕ → ℕ → ℕ → ℕ
-third_byte a g c = get_or a (55 * g + c) 0
-
--- byte c of lane p
-abbrev pub lane_byte : List ℕ → ℕ → ℕ → ℕ
-lane_byte a p c = get_or a (165 * p + c) 0
+-- the bytes l are as many as the lanes a, and begin with the first n of them
+pub record Written (a : List ℕ) (n : ℕ) (l : List ℕ) : Type 0 where
+  pub long : length l ≡ 5280
+  pub is : (m : ℕ) → m < n → get_or l m 0 ≡ get_or a m 0
