@@ -1,19 +1,21 @@
--- Numbers in decimal, and how a number is spelled from its last digit on.
+-- Numbers in decimal, as they are read and as the library prints them.
 -- Assumes nothing.
+use mathlib.Core.Bool.{false}
 use mathlib.Core.Path.{◌≡◌, refl, sym, ap, ◌∙◌, subst}
 use mathlib.Core.Logic.{◌≢◌, ◌⊎◌, inl, inr, ⊎_elim}
 use mathlib.Core.List.Memᴰ
-use mathlib.Core.List.{List, [], ◌∷◌, ◌++◌, append_assoc, Memᴰ}
+use mathlib.Core.List.{List, [], ◌∷◌, ◌++◌, append_assoc, append-nil, Memᴰ}
 use Prim.Native.Nat.{ℕ, zero, suc, ◌+◌, ◌*◌, ◌-◌, ◌/◌, ◌%◌, ◌^◌, ◌≤◌, ◌<◌, zero-le}
 use native.Mathlib.Nat.{pow-suc}
 use native.Mathlib.Omega.{arith}
-use lib.ListN.{length, get_or, take, drop, set, length-append, length-drop, length-set, get_or-append, drop_of_length-le}
-use lib.Seq.{take_all, drop-cons, drop-set-lt, get_or-set_same, get_or-append_seam}
-use borrow.Author.Tests.{lt-ltb, le-ltb}
+use lib.ListN.{length, get_or, length-append, get_or-append}
+use lib.Seq.{get_or-append_seam}
+use borrow.Author.Tests.{lt-ltb, le-ltb, ne_eqb}
 use Rattle.bits.specs.definitions.Bits.{tabulate, value}
 use Rattle.bits.proofs.Value.{value_cong}
 use Rattle.lanes.proofs.Rows.{lt_or_le}
-use Rattle.report.specs.definitions.Report.{ascii, digits, decimal}
+use Rattle.std.specs.Fmt.{digit_glyph, digits_onto, digits as printed_digits, decimal as printed}
+use Rattle.report.specs.definitions.Report.{digits, decimal}
 use Rattle.report.specs.statements.Examples.{DecimalReads}
 
 -- the last digit, alone or behind others
@@ -108,72 +110,31 @@ pub decimal_reads : DecimalReads
 unfolding digits tabulate
 decimal_reads = (λ n h. (reads 20 n (omega arith), leads 20 n (omega arith)), refl, λ n b m. digits_digits 20 n b m)
 
--- what stands from a place on after a store there
-from_there : (to : List ℕ) (k v : ℕ) → k < length to → drop k (set to k v) ≡ v ∷ drop (suc k) to
-from_there to k v h =
-    drop-cons (set to k v) k 0 (let l = length-set to k v in omega arith)
-    ∙ (λ j. get_or-set_same to k v 0 h j ∷ drop-set-lt (suc k) to k v (omega arith) j)
+-- in as many digits as it needs or more, a number is the one that the library prints
+prints : (k m n : ℕ) (rest : List ℕ) → n < 10 ^ k → k ≤ m → 0 < k → digits k n ++ rest ≡ digits_onto m 10 false n rest
+unfolding digits
+prints zero m n rest h l z = absurd (omega arith)
+prints (suc k) zero n rest h l z = absurd (omega arith)
+prints (suc k) (suc m) n rest h l z = go (lt_or_le n 10) (prints k m (n / 10) ((48 + n % 10) ∷ rest) (tenth k n h) (omega arith))
+  where
+    glyph : (d : ℕ) → d < 10 → digit_glyph false d ≡ 48 + d
+    glyph d f = rw (lt-ltb d 10 f) refl
 
--- a text that begins with a number, spelled from the last digit on: the digits of what is left stand before what is written from place i on
-pub record Spelling (t to : List ℕ) (i rest : ℕ) : Type 0 where
-  pub some : 0 < i
-  pub upto : i ≤ 20
-  pub size : length to ≡ 21
-  pub less : rest < 10 ^ i
-  pub is : digits i rest ++ drop i to ≡ t
+    go : (n < 10) ⊎ (10 ≤ n) → (0 < k → digits k (n / 10) ++ ((48 + n % 10) ∷ rest) ≡ digits_onto m 10 false (n / 10) ((48 + n % 10) ∷ rest))
+        → digits (suc k) n ++ rest ≡ digits_onto (suc m) 10 false n rest
+    go (inl f) ih =
+        let tens : n / 10 ≡ 0 = omega arith in
+        let ones : n % 10 ≡ n = omega arith in
+        ap (λ (t : List ℕ). t ++ rest) (one_digit k n f) ∙ rw (tens, ones, glyph n f) refl
+    go (inr f) ih =
+        ap (λ (t : List ℕ). t ++ rest) (more_digits k n f) ∙ append_assoc (digits k (n / 10)) ((48 + n % 10) ∷ []) rest ∙ ih (room k h)
+        ∙ rw (ne_eqb (n / 10) 0 (λ z. absurd (omega arith)), glyph (n % 10) (omega arith)) refl
+      where
+        room : (j : ℕ) → n < 10 ^ suc j → 0 < j
+        room zero l = absurd (omega arith)
+        room (suc j) l = omega arith
 
--- it begins with the line's end
-pub spelling_start : (n : ℕ) (to : List ℕ) → n < 2 ^ 64 → length to ≡ 21 → Spelling (decimal n ++ ascii "\n") (set to 20 10) 20 n
-unfolding tabulate
-spelling_start n to h e =
-    let l : length to ≤ 21 = omega arith in
-    record {
-      some = omega arith;
-      upto = omega arith;
-      size = length-set to 20 10 ∙ e;
-      less = omega arith;
-      is = ap (λ (x : List ℕ). decimal n ++ x) (from_there to 20 10 (omega arith) ∙ ap (λ (x : List ℕ). 10 ∷ x) (drop_of_length-le to l));
-    }
-
--- a digit goes to the place k before what is written
-module _ {t to : List ℕ} {rest : ℕ} (k : ℕ) (S : Spelling t to (suc k) rest) where
-  -- that place is there
-  inside : k < length to
-  inside = omega (arith, S.upto, S.size)
-
-  -- other digits are to come before it
-  one_more : 10 ≤ rest → Spelling t (set to k (48 + rest % 10)) k (rest / 10)
-  one_more h =
-      record {
-        some = room k S.less;
-        upto = (let u = S.upto in omega arith);
-        size = length-set to k (48 + rest % 10) ∙ S.size;
-        less = tenth k rest S.less;
-        is =
-            ap (λ (x : List ℕ). digits k (rest / 10) ++ x) (from_there to k (48 + rest % 10) inside)
-            ∙ sym (append_assoc (digits k (rest / 10)) ((48 + rest % 10) ∷ []) (drop (suc k) to))
-            ∙ ap (λ (x : List ℕ). x ++ drop (suc k) to) (sym (more_digits k rest h)) ∙ S.is;
-      }
-    where
-      room : (j : ℕ) → rest < 10 ^ suc j → 0 < j
-      room zero l = absurd (omega arith)
-      room (suc j) l = omega arith
-
-  -- it is the first
-  done : rest < 10 → drop k (set to k (48 + rest)) ≡ t
-  done h = from_there to k (48 + rest) inside ∙ ap (λ (x : List ℕ). x ++ drop (suc k) to) (sym (one_digit k rest h)) ∙ S.is
-
--- the same at the loop's place i, which the digit goes before
-module _ {t to : List ℕ} {i rest : ℕ} (S : Spelling t to i rest) where
-  next : Spelling t to (suc (i - 1)) rest
-  next = subst (λ (j : ℕ). Spelling t to j rest) (let q = S.some in omega arith) S
-
-  pub spelling_step : 10 ≤ rest → Spelling t (set to (i - 1) (48 + rest % 10)) (i - 1) (rest / 10)
-  spelling_step h = one_more (i - 1) next h
-
-  pub spelling_done : rest < 10 → drop (i - 1) (set to (i - 1) (48 + rest)) ≡ t
-  spelling_done h = done (i - 1) next h
-
--- what stands from place i on, as a part of the 21 bytes
-pub to_the_end : (t to : List ℕ) (i : ℕ) → length to ≡ 21 → drop i to ≡ t → take (21 - i) (drop i to) ≡ t
-to_the_end t to i e h = take_all (21 - i) (drop i to) (let d = length-drop i to in omega arith) ∙ h
+-- a number of 64 bits in decimal is what the library prints
+pub decimal_printed : (n : ℕ) → n < 2 ^ 64 → printed n ≡ decimal n
+unfolding printed_digits
+decimal_printed n h = sym (prints 20 64 n [] (omega arith) (omega arith) (omega arith)) ∙ append-nil (decimal n)

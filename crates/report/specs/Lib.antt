@@ -1,3 +1,2 @@
 pub mod definitions
 pub mod statements
-pub mod private

@@ -1,13 +1,15 @@
--- `report::put_line` meets its contract: the name, then what was spelled. Assumes nothing.
-use Rattle.report.proofs.Decimal.{to_the_end}
-use Rattle.report.proofs.Writing.{wrote_more, wrote_as}
-use borrow.Author.Rules.{rules}
+-- `report::put_line` meets its contract: name, number and line's end make the line. Assumes nothing.
+use mathlib.Core.Path.{ap, ap₂, ◌∙◌}
+use mathlib.Core.List.{List, [], ◌∷◌, ◌++◌}
+use Prim.Native.Nat.{ℕ}
+use native.Mathlib.Omega.{arith}
+use Rattle.report.proofs.Decimal.{decimal_printed}
+use Rattle.report.proofs.Writing.{line_behind}
 use Rattle.report.proofs.put_line.Goals as goal
 
-pub returns : goal.returns
-returns c =
-    let spell = c.spell-from in
-    record {
-      wrote = wrote_more c.put-behind.ensures (wrote_as (to_the_end _ spell.new.to spell.result (search rules) spell.ensures.1) c.put.ensures);
-      upper_bound = search rules;
-    }
+pub returns-clause-bytes : goal.returns-clause-bytes
+returns-clause-bytes c =
+    let number = c.format.ensures.text ∙ decimal_printed c.args.n (omega arith) in
+    c.push.ensures.ascii (omega arith)
+    ∙ ap (λ (l : List ℕ). l ++ (10 ∷ [])) (c.push_str-2.ensures.bytes ∙ ap₂ ◌++◌ c.push_str.ensures.bytes number)
+    ∙ line_behind c.args.report.now.bytes c.args.name.now c.args.n

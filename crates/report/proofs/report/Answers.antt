@@ -1,9 +1,13 @@
--- `report::report` meets its contract: the whole report, or nothing. Assumes nothing.
+-- `report::report` meets its contract: a buffer that is too small, and one that is not. Assumes nothing.
+use mathlib.Core.Path.{◌∙◌}
 use Rattle.report.proofs.Writing.{none_written, all_written}
 use Rattle.report.proofs.report.Goals as goal
 
-pub returns-then-out-n : goal.returns-then-out-n
-returns-then-out-n c = none_written _ _ _ _ _ c.put_text-n.ensures.wrote c.if-out-n.true
+pub returns-then-out-bytes-clause-written : goal.returns-then-out-bytes-clause-written
+returns-then-out-bytes-clause-written c =
+    none_written c.args.run c.args.out.now (c.as_bytes-bytes.ensures.value ∙ c.as_str.ensures.value ∙ c.text-report.ensures) c.if-out-bytes.true
 
-pub returns : goal.returns
-returns c = all_written _ _ _ _ _ c.put_text-n.ensures.wrote _ c.if-out-n.false c.copy.ensures
+pub returns-clause-written : goal.returns-clause-written
+returns-clause-written c =
+    all_written c.args.run c.args.out.now (c.as_bytes-bytes.ensures.value ∙ c.as_str.ensures.value ∙ c.text-report.ensures) c.copy_from_slice.ensures.after
+    c.if-out-bytes.false
