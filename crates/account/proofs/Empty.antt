@@ -5,7 +5,7 @@ use Rattle.std.proofs.Common.{◌≡◌, ℕ, ◌+◌, ◌^◌, false, ◌≢◌
 use Rattle.bits.specs.definitions.Bits.{count}
 use Rattle.account.specs.definitions.Account.{ahead, counted, tallies_of, no_words, opened, over, frame_entered, loss_entered}
 use Rattle.account.specs.definitions.Account.{measured, verdict, verdict_number}
-use Rattle.account.specs.declared.Entry.{Entry}
+use Rattle.account.specs.definitions.Account.{Entry}
 use Rattle.account.specs.declared.Tallies.{Tallies}
 use Rattle.account.specs.declared.Verdict.TheVariants.{Pass}
 

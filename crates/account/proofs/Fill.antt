@@ -1,15 +1,16 @@
 -- What is due to a frame, by its number: `DueByNumber` and `Brings`; and `FewerThanTwo`.
 -- Assumes nothing.
 use Rattle.std.proofs.Common.{◌≡◌, ℕ, zero, suc, ◌+◌, ◌%◌, ◌^◌, ◌<◌, ◌≤◌, Bool, true, false, cond, ◌&&◌}
-use Rattle.std.proofs.Common.{eqb, leb, ◌≢◌, List, get_or, sym, refl, ◌∙◌, subst, arith, eq-eqb, ne_eqb, le-leb, leb-true}
+use Rattle.std.proofs.Common.{eqb, leb, ◌≢◌, ◌-◌, List, [], ◌∷◌, length, length-drop, take, drop, count_by, get_or, ap, sym, refl, ◌∙◌, subst, arith, eq-eqb, ne_eqb, le-leb, leb-true}
 use borrow.Author.Tests.{lt-leb}
+use Rattle.std.proofs.lemmas.List.Recursion.{is_count_by}
+use Rattle.std.proofs.lemmas.List.{get_or-drop, take_all}
+use Rattle.std.proofs.lemmas.Bool.Decides.{nat_tests}
 use Rattle.bits.specs.definitions.Bits.{count}
-use Rattle.bits.proofs.Count.{count_cong, count_le, count_all}
-use Rattle.account.specs.definitions.Account.{ahead, by_number, due, tallied, counted, tallies_of, total, verdict}
+use Rattle.bits.proofs.Count.{count_append, count_cong, count_le, count_none, count_all}
+use Rattle.account.specs.definitions.Account.{ahead, by_number, due, tallied, counted, tallies_of, total, measured, verdict}
 use Rattle.account.specs.statements.Fill.{DueByNumber, Brings, FewerThanTwo}
 use Rattle.account.specs.declared.Account.{Account}
-use Rattle.account.specs.declared.Verdict.TheVariants.{NotMeasured}
-use Rattle.account.proofs.VerdictMeaning.{too_few, not_measured, stopped_run}
 
 -- ---- by number
 
@@ -42,25 +43,60 @@ due_by_number a got hs hg = (
 
 -- ---- the tallied words, from their first place on
 
+-- those of a list that pass a test, by their places
+in_list : (p : ℕ → Bool) (xs : List ℕ) → count (λ place. p (get_or xs place 0)) (length xs) ≡ count_by p xs
+unfolding count
+in_list p = is_count_by (λ xs. count (λ place. p (get_or xs place 0)) (length xs)) p none more
+  where
+    none : count (λ place. p (get_or [] place 0)) 0 ≡ 0
+    none = refl
+
+    -- the first of them apart
+    first_apart : (q : ℕ → Bool) (n : ℕ) → count q (suc n) ≡ cond (q 0) 1 0 + count (λ i. q (suc i)) n
+    first_apart q zero = refl
+    first_apart q (suc n) = omega (arith, first_apart q n)
+
+    more : (x : ℕ) (xs : List ℕ) → count (λ place. p (get_or (x ∷ xs) place 0)) (suc (length xs))
+        ≡ cond (p x) (1 + count (λ place. p (get_or xs place 0)) (length xs)) (count (λ place. p (get_or xs place 0)) (length xs))
+    more x xs = first_apart (λ place. p (get_or (x ∷ xs) place 0)) (length xs) ∙ one_more (p x) _
+      where
+        one_more : (b : Bool) (n : ℕ) → cond b 1 0 + n ≡ cond b (1 + n) n
+        one_more true n = omega arith
+        one_more false n = omega arith
+
+-- and those from a place on
+from_place : (p : ℕ → Bool) (xs : List ℕ) (first : ℕ) → first ≤ length xs
+    → count_by p (drop first xs) ≡ count (λ place. leb first place && p (get_or xs place 0)) (length xs)
+from_place p xs first h = sym (in_list p (drop first xs)) ∙ there ∙ sym (whole ∙ count_append q first rest ∙ rw before (omega arith))
+  where
+    rest : ℕ
+    rest = length xs - first
+
+    q : ℕ → Bool
+    q place = leb first place && p (get_or xs place 0)
+
+    there : count (λ i. p (get_or (drop first xs) i 0)) (length (drop first xs)) ≡ count (λ i. q (first + i)) rest
+    there = rw length-drop (count_cong rest _ _ (λ i l. rw (get_or-drop first xs i 0, le-leb first (first + i) (omega arith)) refl))
+
+    whole : count q (length xs) ≡ count q (first + rest)
+    whole = ap (count q) (let n : length xs ≡ first + rest = omega arith in n)
+
+    before : count q first ≡ 0
+    before = count_none q first (λ i l. rw (lt-leb first i l) refl)
+
 -- in code
-pub from_first : (a : Account) (got : ℕ) (flags : List ℕ) (v first : ℕ) → first ≡ by_number a got 384 64 0
-    → count (λ place. leb first place && eqb (get_or flags place 0) v) 384 ≡ counted a got flags v
+pub from_first : (a : Account) (got : ℕ) (flags : List ℕ) (v first : ℕ) → first ≡ by_number a got 384 64 0 → first ≤ 384 → length flags ≡ 384
+    → count_by (λ flag. eqb flag v) (take (384 - first) (drop first flags)) ≡ counted a got flags v
 unfolding counted
-from_first a got flags v first e =
-    rw e (count_cong 384 _ _ (λ place h k. by_place (eqb (ahead got a.start) 0) (eqb (ahead got a.start) 1) place h k && eqb (get_or flags place 0) v))
+from_first a got flags v first e h l =
+    ap (count_by (λ flag. eqb flag v)) (take_all (384 - first) (drop first flags) (rw length-drop (omega arith)))
+    ∙ from_place (λ flag. eqb flag v) flags first (omega arith)
+    ∙ rw (l, e) (count_cong 384 _ _ (λ place h k. by_place (eqb (ahead got a.start) 0) (eqb (ahead got a.start) 1) place h k && eqb (get_or flags place 0) v))
   where
     by_place : (x y : Bool) (place : ℕ) → place < 384 → leb (cond x 384 (cond y 64 0)) place ≡ cond x false (cond y (leb 64 place) true)
     by_place true y place h = lt-leb 384 place (omega arith)
     by_place false true place h = refl
     by_place false false place h = le-leb 0 place (omega arith)
-
-pub first_inside : (a : Account) (got : ℕ) → by_number a got 384 64 0 ≤ 384
-first_inside a got = go (eqb (ahead got a.start) 0) (eqb (ahead got a.start) 1)
-  where
-    go : (x y : Bool) → cond x 384 (cond y 64 0) ≤ 384
-    go true y = omega arith
-    go false true = omega arith
-    go false false = omega arith
 
 -- how many they are
 how_many : (x y : Bool) → count (λ place. cond x false (cond y (leb 64 place) true)) 384 ≡ cond x 0 (cond y 320 384)
@@ -120,8 +156,5 @@ brings a got flags = (
 -- ---- an order for one frame
 
 pub fewer_than_two : FewerThanTwo
-fewer_than_two asked allowed a stopped h = go stopped refl
-  where
-    go : (b : Bool) → stopped ≡ b → verdict asked allowed a stopped ≡ NotMeasured
-    go true e = sym (stopped_run asked allowed a stopped e)
-    go false e = sym (not_measured asked allowed a stopped e false (too_few asked a h) refl)
+unfolding verdict measured
+fewer_than_two asked allowed a stopped h = grind (arith, nat_tests)

@@ -7,7 +7,7 @@ use Rattle.account.specs.definitions.Kept.{account_after}
 use Rattle.account.specs.statements.Kept.{KeptFromOrder, RefusedKeeps}
 use Rattle.account.specs.statements.Fill.{AddsDue}
 use Rattle.account.specs.declared.Account.{Account}
-use Rattle.account.specs.declared.Entry.{Entry}
+use Rattle.account.specs.definitions.Account.{Entry}
 use Rattle.account.specs.declared.Tallies.{Tallies}
 use Rattle.account.proofs.AcceptedEntry.{frame_taken, loss_taken}
 use Rattle.account.proofs.Totals.{InTurn, opened_in_turn, frame_in_turn, loss_in_turn}

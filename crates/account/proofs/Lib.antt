@@ -1,4 +1,3 @@
-pub mod Sums
 pub mod Limits
 pub mod AcceptedEntry
 pub mod VerdictMeaning

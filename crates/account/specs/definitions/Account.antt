@@ -4,7 +4,6 @@ use Rattle.std.specs.Prelude.{ℕ, ◌+◌, ◌-◌, ◌*◌, ◌%◌, ◌^◌, 
 use Rattle.bits.specs.definitions.Bits.{count}
 use Rattle.account.specs.declared.Tallies.{Tallies}
 use Rattle.account.specs.declared.Account.{Account}
-use Rattle.account.specs.declared.Entry.{Entry}
 use Rattle.account.specs.declared.Verdict.{Verdict}
 use Rattle.account.specs.declared.Verdict.TheVariants.{NotMeasured, Pass, Fail}
 
@@ -95,6 +94,11 @@ with_frame a got t = grown a got 1 (ahead got a.expected) t
 -- with a loss, a frame without lock: it is missing too, d + 1 in all, and no tally moves
 abbrev pub with_loss : Account → ℕ → Account
 with_loss a got = grown a got 0 (ahead got a.expected + 1) no_words
+
+-- what an entry leaves: its refusal's number, or 0, and the account
+pub record Entry : Type 0 where
+  pub refusal : ℕ
+  pub account : Account
 
 -- an answer: the new account where nothing is refused, else the old one
 abbrev pub answer : ℕ → Account → Account → Entry
