@@ -1,7 +1,8 @@
 -- What is due to a frame, by its number: `DueByNumber` and `Brings`; and `FewerThanTwo`.
 -- Assumes nothing.
 use Rattle.std.proofs.Common.{◌≡◌, ℕ, zero, suc, ◌+◌, ◌%◌, ◌^◌, ◌<◌, ◌≤◌, Bool, true, false, cond, ◌&&◌}
-use Rattle.std.proofs.Common.{eqb, leb, ◌≢◌, ◌-◌, List, [], ◌∷◌, length, length-drop, take, drop, count_by, get_or, ap, sym, refl, ◌∙◌, subst, arith, eq-eqb, ne_eqb, le-leb, leb-true}
+use Rattle.std.proofs.Common.{eqb, leb, ◌≢◌, ◌-◌, List, [], ◌∷◌, length, length-drop, take, drop, count_by, get_or, ap, sym, refl, ◌∙◌}
+use Rattle.std.proofs.Common.{subst, arith, eq-eqb, ne_eqb, le-leb, leb-true}
 use borrow.Author.Tests.{lt-leb}
 use Rattle.std.proofs.lemmas.List.Recursion.{is_count_by}
 use Rattle.std.proofs.lemmas.List.{get_or-drop, take_all}
