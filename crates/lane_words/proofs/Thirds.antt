@@ -20,6 +20,8 @@ use Rattle.lane_words.specs.definitions.LaneWords.{information_at, lane_words}
 use Rattle.lane_words.specs.private.Thirds.{number_at, with_word, word_place, Placed}
 use Rattle.lane_words.proofs.LaneWords.{field_middle, word_law, joined_fields}
 
+-- ---- the seven numbers
+
 -- number j of third t of lane p begins at bit b
 pub number_is : (a : List ℕ) (p t j b : ℕ) → b ≡ 1320 * p + 440 * t + (64 * j - 8 * (j / 6)) → field_at a b 64 ≡ number_at a p t j
 unfolding number_at
@@ -30,8 +32,9 @@ abbrev pub ReadAt : List ℕ → ℕ → ℕ → List ℕ → ℕ → Type 0
 ReadAt a p t ns j = get_or ns j 0 ≡ loaded_at a (165 * p + 55 * t + 8 * j - j / 6)
 
 -- all seven
-pub numbers_law : (a : List ℕ) (p t : ℕ) (ns : List ℕ) → length a ≡ 5280 → p < 32 → t < 3 → length ns ≡ 7 → ReadAt a p t ns 0 → ReadAt a p t ns 1 → ReadAt a p t ns 2
-    → ReadAt a p t ns 3 → ReadAt a p t ns 4 → ReadAt a p t ns 5 → ReadAt a p t ns 6 → ns ≡ tabulate 7 (number_at a p t)
+pub numbers_law : (a : List ℕ) (p t : ℕ) (ns : List ℕ) → length a ≡ 5280 → p < 32 → t < 3 → length ns ≡ 7
+    → ReadAt a p t ns 0 → ReadAt a p t ns 1 → ReadAt a p t ns 2 → ReadAt a p t ns 3 → ReadAt a p t ns 4 → ReadAt a p t ns 5 → ReadAt a p t ns 6
+    → ns ≡ tabulate 7 (number_at a p t)
 numbers_law a p t ns la hp ht ln r₀ r₁ r₂ r₃ r₄ r₅ r₆ = is_tabulate 0 ns 7 (number_at a p t) ln at
   where
     read : (j : ℕ) → j < 7 → ReadAt a p t ns j
@@ -47,6 +50,8 @@ pub number_of : (a : List ℕ) (p t : ℕ) {ns : List ℕ} → ns ≡ tabulate 7
     → get_or ns j 0 ≡ field_at a b 64
 number_of a p t {ns} e j b h eb =
     ap (λ (s : List ℕ). get_or s j 0) e ∙ get_d_tabulate 7 (number_at a p t) j 0 h ∙ sym (number_is a p t j b eb)
+
+-- ---- two numbers joined
 
 -- what `joined` gives
 abbrev pub join : ℕ → ℕ → ℕ → ℕ

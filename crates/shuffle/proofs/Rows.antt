@@ -72,11 +72,12 @@ numbers_put {o} {i} {hi} {lo} e b h l =
         get_or-set_other (set o (2 * i) hi) (2 * i + 1) (2 * i) lo 0 (omega arith) ∙ get_or-set_same o (2 * i) hi 0 (omega arith) ∙ upper_is hi lo h l,
         get_or-set_same (set o (2 * i) hi) (2 * i + 1) lo 0 (omega (arith, length-set o (2 * i) hi)) ∙ lower_is hi lo l,
       );
-      there = λ j v ne q. (other (2 * j) (λ e. ne (omega arith)) (λ e. ne (omega arith)) ∙ q.0, other (2 * j + 1) (λ e. ne (omega arith)) (λ e. ne (omega arith)) ∙ q.1);
+      there = λ j v ne q. (other (2 * j) (λ e. ne (omega arith)) ∙ q.0, other (2 * j + 1) (λ e. ne (omega arith)) ∙ q.1);
     }
   where
-    other : (m : ℕ) → m ≢ 2 * i → m ≢ 2 * i + 1 → get_or (set (set o (2 * i) hi) (2 * i + 1) lo) m 0 ≡ get_or o m 0
-    other m ne me = get_or-set_other (set o (2 * i) hi) (2 * i + 1) m lo 0 me ∙ get_or-set_other o (2 * i) m hi 0 ne
+    other : (m : ℕ) → m / 2 ≢ i → get_or (set (set o (2 * i) hi) (2 * i + 1) lo) m 0 ≡ get_or o m 0
+    other m ne =
+        get_or-set_other (set o (2 * i) hi) (2 * i + 1) m lo 0 (λ e. ne (omega arith)) ∙ get_or-set_other o (2 * i) m hi 0 (λ e. ne (omega arith))
 
 pub numbers_done : {m : ℕ} {s o : List ℕ} → LanesRotated HoldsNumbers m s 32 o → length o ≡ 768 → o ≡ rotated_row m s
 unfolding rotated_row half_of
