@@ -6,8 +6,6 @@ use Rattle.symbols.proofs.swapped.Kinds as swapped-kinds
 use Rattle.symbols.proofs.swapped.Reads as swapped-reads
 use Rattle.symbols.proofs.put_dibit.Kinds as dibit-kinds
 use Rattle.symbols.proofs.put_dibit.Reads as dibit-reads
-use Rattle.symbols.proofs.wide.Kinds as wide-kinds
-use Rattle.symbols.proofs.wide.Reads as wide-reads
 use Rattle.symbols.proofs.frame_from_words.Kinds as frame-kinds
 use Rattle.symbols.proofs.frame_from_words.Reads as frame_reads
 
@@ -17,8 +15,6 @@ swapped_determined κs a x y s t p q = (p ∙ sym q, tt)
 pub put_dibit_determined : Fixes 0 dibit-kinds.ps dibit-kinds.r dibit-reads.Post (λ κs s t. Unit)
 put_dibit_determined κs a x y s t p q = (p ∙ sym q, tt)
 
-pub wide_determined : Fixes 0 wide-kinds.ps wide-kinds.r wide-reads.Post (λ κs s t. Unit)
-wide_determined κs a x y s t p q = (p.0 ∙ sym q.0, tt)
 
 -- no result, and the frame at exit
 pub frame_from_words_determined : Fixes 2 frame-kinds.ps frame-kinds.r frame_reads.Post (λ κs s t. s.1.0.now ≡ t.1.0.now)

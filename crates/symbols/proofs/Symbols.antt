@@ -2,14 +2,15 @@
 -- Assumes nothing.
 use mathlib.Core.Path.{◌≡◌, refl, sym, ap, ap₂, ◌∙◌, subst}
 use mathlib.Core.Bool.{Bool, true, false, cond, ◌&&◌}
-use mathlib.Core.List.{List, ◌++◌}
+use mathlib.Core.List.{List, [], ◌∷◌, ◌++◌}
 use Prim.Native.Nat.{ℕ, zero, suc, ◌+◌, ◌-◌, ◌*◌, ◌/◌, ◌%◌, ◌^◌, ◌<◌, ◌≤◌}
-use native.Mathlib.Nat.{pow-suc, mul-suc, mod-lt, div-div-eq-div-mul, add-mul-mod_self_right}
+use native.Mathlib.Nat.{pow-suc, mul-suc, add-zero, mod-lt, div-div-eq-div-mul, add-mul-mod_self_right}
 use native.Mathlib.Decide.{ℕ_discrete, dec_lt}
 use native.Mathlib.Omega.{arith}
 use lib.Dec.{T, eqb, ltb, eqb→eq, ltb→lt, lit<}
-use lib.ListN.{length, get_or, set, take, drop, length-set}
+use lib.ListN.{length, get_or, set, take, drop, length-set, length-take, length-drop}
 use lib.Seq.{get_or-set_same, get_or-set_other}
+use Rattle.std.specs.Int.{w16, to_le_bytes}
 use lib.Pow.{pow-add, shl_exact, field, mod-mod-pow}
 use borrow.Author.Tests.{eq-eqb, ne_eqb, lt-ltb, le-ltb}
 use Rattle.bits.specs.definitions.Bits.{tabulate, value, number, bit_of}
@@ -333,61 +334,64 @@ frame_is s b f e q =
 abbrev pub put_part : ℕ → ℕ → List ℕ → List ℕ → List ℕ
 put_part o end out part = take o out ++ (part ++ drop (end - o) (drop o out))
 
--- row g, of four, of a quarter is lent, and filled
-quarter_step : (b : List ℕ) (e q g l at o end : ℕ) {n : ℕ} {out₀ out part : List ℕ} → o ≡ 16 * g → end ≡ o + 16 → end ≤ n → at ≡ 256 * q + 64 * g
-    → l % 4 ≡ (3 * g + 3 + e) % 4
-    → Filling (λ i. quarter_at b e (64 * q + i)) n out₀ out o
-    → part ≡ tabulate (length (take (end - o) (drop o out))) (λ i. mapped l (dibits_at b e (at + i)))
-    → Filling (λ i. quarter_at b e (64 * q + i)) n out₀ (put_part o end out part) end
+-- symbol i of row r, of four, of a quarter, by any number that has the remainder of its own
+pub row_at : (b : List ℕ) (e q r l at i : ℕ) → r < 4 → l ≡ (e + 3 - r) % 4 → at ≡ 256 * q + 64 * r → i < 16
+    → mapped l (dibits_at b e (at + i)) ≡ quarter_at b e (64 * q + 16 * r + i)
 unfolding quarter_at
-quarter_step b e q g l at o end {n} {out₀} {out} {part} eo ee le ea el F p =
-    filling_put _ end part (λ _ i. mapped l (dibits_at b e (at + i))) F (omega arith) le p row
+row_at b e q r l at i hr el ea h =
+    let j = 64 * q + 16 * r + i in
+    let d : j / 16 ≡ 4 * q + r = omega arith in
+    let m : at + i ≡ 64 * (j / 16) + j % 16 = omega arith in
+    λ x. mapped (number (j / 16) d x) (dibits_at b e (m x))
   where
-    number : (a : ℕ) → a ≡ 4 * q + g → l % 4 ≡ (3 * a + 3 + e) % 4
-    number a h = el ∙ fours (3 * g + 3 + e) (3 * a + 3 + e) (3 * q) (omega arith)
+    number : (a : ℕ) → a ≡ 4 * q + r → l ≡ (3 * a + 3 + e) % 4
+    number a h = el ∙ fours (e + 3 - r) (3 * a + 3 + e) (3 * q + r) (omega arith)
 
-    row : (k : ℕ) → k < end - o → mapped l (dibits_at b e (at + k)) ≡ quarter_at b e (64 * q + (o + k))
-    row k c =
-        let j = 64 * q + (o + k) in
-        let d : j / 16 ≡ 4 * q + g = omega arith in
-        let m : at + k ≡ 64 * (j / 16) + j % 16 = omega arith in
-        sym (mapped_mod l _)
-        ∙ (λ x. mapped (number (j / 16) d x) (dibits_at b e (m x)))
+-- a part of m numbers is put where they belong
+pub part_put : (f g : ℕ → ℕ) (m o end : ℕ) {n : ℕ} {out₀ out part : List ℕ} → part ≡ tabulate m g → end ≡ o + m → end ≤ n
+    → ((k : ℕ) → k < m → g k ≡ f (o + k)) → Filling f n out₀ out o → Filling f n out₀ (put_part o end out part) end
+part_put f g m o end {out = out} {part} p ee le agree F =
+    filling_put f end part (λ _. g) F (omega arith) le (p ∙ ap (λ (k : ℕ). tabulate k g) (sym size)) (λ k h. agree k (omega arith))
+  where
+    size : length (take (end - o) (drop o out)) ≡ m
+    size = simp (length-take, length-drop) (omega (arith, F.long))
 
--- four rows, one after another
-pub quarter_four : (b : List ℕ) (e q n : ℕ) (out : List ℕ) {a₀ a₁ a₂ a₃ : List ℕ} → length out ≡ n → n ≡ 64 → e < 4
-    → let out₁ = put_part 0 16 out a₀ in
-    let out₂ = put_part 16 32 out₁ a₁ in
-    let out₃ = put_part 32 48 out₂ a₂ in
-    a₀ ≡ tabulate (length (take 16 (drop 0 out))) (λ i. mapped ((e + 3) % 4) (dibits_at b e (256 * q + i)))
-    → a₁ ≡ tabulate (length (take 16 (drop 16 out₁))) (λ i. mapped ((e + 2) % 4) (dibits_at b e (256 * q + 64 + i)))
-    → a₂ ≡ tabulate (length (take 16 (drop 32 out₂))) (λ i. mapped ((e + 1) % 4) (dibits_at b e (256 * q + 128 + i)))
-    → a₃ ≡ tabulate (length (take 16 (drop 48 out₃))) (λ i. mapped e (dibits_at b e (256 * q + 192 + i)))
-    → put_part 48 64 out₃ a₃ ≡ tabulate n (λ i. quarter_at b e (64 * q + i))
-quarter_four b e q n out l h he p₀ p₁ p₂ p₃ =
-    filling_done _
-    (quarter_step b e q 3 e (256 * q + 192) 48 64 refl refl (omega arith) refl (omega arith)
-    (quarter_step b e q 2 ((e + 1) % 4) (256 * q + 128) 32 48 refl refl (omega arith) refl (omega arith)
-    (quarter_step b e q 1 ((e + 2) % 4) (256 * q + 64) 16 32 refl refl (omega arith) refl (omega arith)
-    (quarter_step b e q 0 ((e + 3) % 4) (256 * q) 0 16 refl refl (omega arith) (omega arith) (omega arith) (filling_start _ {out₀ = out} l) p₀) p₁) p₂) p₃)
-    (omega arith)
+-- the four rows are put, one after another
+pub quarter_step : (b : List ℕ) (e q : ℕ) {out₀ out a₀ a₁ a₂ a₃ : List ℕ} → q < 24
+    → let o = 64 * q in
+    Filling (quarter_at b e) 1536 out₀ out o
+    → a₀ ≡ tabulate 16 (λ i. quarter_at b e (o + 16 * 0 + i)) → a₁ ≡ tabulate 16 (λ i. quarter_at b e (o + 16 * 1 + i))
+    → a₂ ≡ tabulate 16 (λ i. quarter_at b e (o + 16 * 2 + i)) → a₃ ≡ tabulate 16 (λ i. quarter_at b e (o + 16 * 3 + i))
+    → Filling (quarter_at b e) 1536 out₀
+    (put_part (o + 48) (o + 64) (put_part (o + 32) (o + 48) (put_part (o + 16) (o + 32) (put_part o (o + 16) out a₀) a₁) a₂) a₃) (64 * (q + 1))
+quarter_step b e q {out₀} h F p₀ p₁ p₂ p₃ =
+    let o = 64 * q in
+    let next : o + 64 ≡ 64 * (q + 1) = omega arith in
+    subst (Filling (quarter_at b e) 1536 out₀ _) next
+    (row 3 (o + 48) (o + 64) refl (omega arith) (omega arith) p₃ (row 2 (o + 32) (o + 48) refl (omega arith) (omega arith) p₂
+    (row 1 (o + 16) (o + 32) refl (omega arith) (omega arith) p₁ (row 0 o (o + 16) (omega arith) refl (omega arith) p₀ F))))
+  where
+    row : (r o end : ℕ) {out part : List ℕ} → o ≡ 64 * q + 16 * r → end ≡ o + 16 → end ≤ 1536 → part ≡ tabulate 16 (λ i. quarter_at b e (64 * q + 16 * r + i))
+        → Filling (quarter_at b e) 1536 out₀ out o → Filling (quarter_at b e) 1536 out₀ (put_part o end out part) end
+    row r o end eo ee le p = part_put (quarter_at b e) _ 16 o end p ee le (λ k h. ap (λ (n : ℕ). quarter_at b e (n + k)) (sym eo))
 
--- four bytes of two numbers
-pub two_bytes_step : (x y : List ℕ) {out₀ out : List ℕ} (i v w : ℕ) → i < 1536 → v ≡ get_or x i 0 → w ≡ get_or y i 0 → v < 65536 → w < 65536
+-- two bytes put side by side
+two_put : (f : ℕ → ℕ) (o end : ℕ) {n : ℕ} {out₀ out part : List ℕ} {a b : ℕ} → part ≡ a ∷ b ∷ [] → end ≡ o + 2 → end ≤ n → a ≡ f o → b ≡ f (o + 1)
+    → Filling f n out₀ out o → Filling f n out₀ (put_part o end out part) end
+unfolding tabulate
+two_put f o end p ee le ea eb =
+    part_put f (λ k. f (o + k)) 2 o end (p ∙ λ k. (ea ∙ ap f (sym (add-zero o))) k ∷ eb k ∷ []) ee le (λ k h. refl)
+
+-- the bytes of two numbers, two and two
+pub two_bytes_step : (x y : List ℕ) {out₀ out : List ℕ} (i : ℕ) {v w : List ℕ} → i < 1536 → v ≡ to_le_bytes w16 (get_or x i 0) → w ≡ to_le_bytes w16 (get_or y i 0)
     → Filling (byte_of_two x y) 6144 out₀ out (4 * i)
-    → Filling (byte_of_two x y) 6144 out₀
-    (set (set (set (set out (4 * i) (v % 256)) (4 * i + 1) (v / 256)) (4 * i + 2) (w % 256)) (4 * i + 3) (w / 256)) (4 * (i + 1))
+    → Filling (byte_of_two x y) 6144 out₀ (put_part (4 * i + 2) (4 * i + 4) (put_part (4 * i) (4 * i + 2) out v) w) (4 * (i + 1))
 unfolding byte_of_two
-two_bytes_step x y {out₀} {out} i v w h ev ew lv lw F =
-    let z : 4 * i + 3 + 1 ≡ 4 * (i + 1) = omega arith in
+two_bytes_step x y {out₀} {out} i {v} {w} h ev ew F =
+    let z : 4 * i + 4 ≡ 4 * (i + 1) = omega arith in
     subst (Filling f 6144 out₀ _) z
-    (filling_at f (4 * i + 3) (w / 256) (omega arith)
-    (filling_at f (4 * i + 2) (w % 256) (omega arith)
-    (filling_at f (4 * i + 1) (v / 256) refl
-    (filling_at f (4 * i) (v % 256) refl F (omega arith) (low v ∙ upper 0 (4 * i) (omega arith) (omega arith)))
-    (omega arith) (high v lv ∙ upper 1 (4 * i + 1) (omega arith) (omega arith)))
-    (omega arith) (low w ∙ lower 0 (4 * i + 2) (omega arith) (omega arith)))
-    (omega arith) (high w lw ∙ lower 1 (4 * i + 3) (omega arith) (omega arith)))
+    (two_put f (4 * i + 2) (4 * i + 4) ew (omega arith) (omega arith) (low _ ∙ lower 0 (4 * i + 2) (omega arith) (omega arith)) (lower 1 (4 * i + 2 + 1) (omega arith) (omega arith))
+    (two_put f (4 * i) (4 * i + 2) ev refl (omega arith) (low _ ∙ upper 0 (4 * i) (omega arith) (omega arith)) (upper 1 (4 * i + 1) (omega arith) (omega arith)) F))
   where
     f : ℕ → ℕ
     f = byte_of_two x y
@@ -395,22 +399,19 @@ two_bytes_step x y {out₀} {out} i v w h ev ew lv lw F =
     low : (n : ℕ) → n % 256 ≡ n / 256 ^ 0 % 256
     low n = omega arith
 
-    high : (n : ℕ) → n < 65536 → n / 256 ≡ n / 256 ^ 1 % 256
-    high n l = omega arith
-
-    upper : (u t : ℕ) → u < 2 → t ≡ 4 * i + u → v / 256 ^ u % 256 ≡ f t
+    upper : (u t : ℕ) → u < 2 → t ≡ 4 * i + u → get_or x i 0 / 256 ^ u % 256 ≡ f t
     upper u t hu e =
         let m : t % 4 < 2 = omega arith in
         let d : i ≡ t / 4 = omega arith in
         let n : u ≡ t % 2 = omega arith in
-        rw (lt-ltb (t % 4) 2 m) (λ k. (ev ∙ ap (λ (j : ℕ). get_or x j 0) d) k / 256 ^ n k % 256)
+        rw (lt-ltb (t % 4) 2 m) (λ k. get_or x (d k) 0 / 256 ^ n k % 256)
 
-    lower : (u t : ℕ) → u < 2 → t ≡ 4 * i + 2 + u → w / 256 ^ u % 256 ≡ f t
+    lower : (u t : ℕ) → u < 2 → t ≡ 4 * i + 2 + u → get_or y i 0 / 256 ^ u % 256 ≡ f t
     lower u t hu e =
         let m : 2 ≤ t % 4 = omega arith in
         let d : i ≡ t / 4 = omega arith in
         let n : u ≡ t % 2 = omega arith in
-        rw (le-ltb (t % 4) 2 m) (λ k. (ew ∙ ap (λ (j : ℕ). get_or y j 0) d) k / 256 ^ n k % 256)
+        rw (le-ltb (t % 4) 2 m) (λ k. get_or y (d k) 0 / 256 ^ n k % 256)
 
 -- a number's two bytes
 two_bytes_at : (f g : ℕ → ℕ) (s s' x : List ℕ) (j : ℕ) → j < 1536 → s ≡ tabulate 1536 f → s' ≡ tabulate 1536 g

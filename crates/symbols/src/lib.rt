@@ -27,129 +27,92 @@ pub fn put_dibit(x: u8, e: u8, t: u8) -> u8
     ((x >> from) % 4) << to
 }
 
-// Symbol l from dibit e of a byte of each of its four lanes.
-fn symbol(a: u8, b: u8, c: u8, d: u8, e: u8, l: u8) -> u8
-    requires { (e < 4) × (l < 4) }
-    ensures { result ≡ mapped l (dibit_in e a * 64 + dibit_in e b * 16 + dibit_in e c * 4 + dibit_in e d) }
+// Symbol l from dibit E of a byte of each of its four lanes.
+fn symbol<const E: u8>(a: u8, b: u8, c: u8, d: u8, l: u8) -> u8
+    requires { (E < 4) × (l < 4) }
+    ensures { result ≡ mapped l (dibit_in E a * 64 + dibit_in E b * 16 + dibit_in E c * 4 + dibit_in E d) }
 {
     let f = 3 * (2 * l + l / 2 % 2);
-    let w = put_dibit(a, e, f % 4);
-    let x = put_dibit(b, e, (1 + f) % 4);
-    let y = put_dibit(c, e, (2 + f) % 4);
-    let z = put_dibit(d, e, (3 + f) % 4);
+    let w = put_dibit(a, E, f % 4);
+    let x = put_dibit(b, E, (1 + f) % 4);
+    let y = put_dibit(c, E, (2 + f) % 4);
+    let z = put_dibit(d, E, (3 + f) % 4);
     let v = w + x + y + z;
-    if l % 2 == 1 {
-        return swapped(v);
-    }
-    v
+    if l % 2 == 1 { swapped(v) } else { v }
 }
 
-// Every fourth symbol of a row, from symbol e on: all are symbol l, of four, and come of the row's 64 bytes from byte at on.
-fn row_quarter(b: &[u8; 6144], at: usize, e: u8, l: u8, out: &mut [u8])
-    requires { (at + 64 ≤ 6144) × (e < 4) × (l < 4) × (length out.old ≡ 16) }
-    ensures { out.new ≡ tabulate (length out.old) (λ i. mapped l (dibits_at b.now e (at + i))) }
+// Every fourth symbol of row R of the four from row 4 q on, from symbol E on: what number the first has goes round by four.
+fn row_quarter<const E: u8, const R: u8>(b: &[u8; 6144], q: usize) -> [u8; 16]
+    requires { (E < 4) × (R < 4) × (q < 24) }
+    ensures { result ≡ tabulate 16 (λ i. quarter_at b.now E (64 * q + 16 * R + i)) }
 {
-    let mut i: usize = 0;
-    while i < 16 {
+    let l = (E + 3 - R) % 4;
+    let at = 256 * q + 64 * usize::from(R);
+    let mut row = [0; 16];
+    for (i, place) in row.iter_mut().enumerate() {
         let m = at + i;
-        out[i] = symbol(b[m], b[m + 16], b[m + 32], b[m + 48], e, l);
-        i += 1;
+        *place = symbol::<E>(b[m], b[m + 16], b[m + 32], b[m + 48], l);
     }
+    row
 }
 
-// The same of the four rows from row 4 q on: what a row's first symbol is goes round by four.
-fn four_quarters(b: &[u8; 6144], q: usize, e: u8, out: &mut [u8])
-    requires { (q < 24) × (e < 4) × (length out.old ≡ 64) }
-    ensures { out.new ≡ tabulate (length out.old) (λ i. quarter_at b.now e (64 * q + i)) }
+// Every fourth symbol of a frame, from symbol E on.
+fn quarter<const E: u8>(b: &[u8; 6144], out: &mut [u8; 1536])
+    requires { E < 4 }
+    ensures { out.new ≡ tabulate 1536 (quarter_at b.now E) }
 {
-    let at = 256 * q;
-    row_quarter(b, at, e, (e + 3) % 4, &mut out[0..16]);
-    row_quarter(b, at + 64, e, (e + 2) % 4, &mut out[16..32]);
-    row_quarter(b, at + 128, e, (e + 1) % 4, &mut out[32..48]);
-    row_quarter(b, at + 192, e, e, &mut out[48..64]);
-}
-
-// Every fourth symbol of a frame, from symbol e on. Compiled for a literal e.
-fn quarter(b: &[u8; 6144], e: u8, out: &mut [u8])
-    requires { (e < 4) × (length out.old ≡ 1536) }
-    ensures { out.new ≡ tabulate 1536 (quarter_at b.now e) }
-{
-    let mut q: usize = 0;
-    while q < 24 {
+    for q in 0..24 {
         let o = 64 * q;
-        let end = o + 64;
-        four_quarters(b, q, e, &mut out[o..end]);
-        q += 1;
+        out[o..o + 16].copy_from_slice(&row_quarter::<E, 0>(b, q));
+        out[o + 16..o + 32].copy_from_slice(&row_quarter::<E, 1>(b, q));
+        out[o + 32..o + 48].copy_from_slice(&row_quarter::<E, 2>(b, q));
+        out[o + 48..o + 64].copy_from_slice(&row_quarter::<E, 3>(b, q));
     }
-}
-
-// A byte as a number of 16 bits.
-pub fn wide(x: u8) -> u16
-    ensures { (result ≡ x) × (result < 256) }
-{
-    x as u16
 }
 
 // Two rows of bytes, one byte of each in a number: bytes at a stride the compiler would move one by one.
-fn two_bytes(x: &[u8; 1536], y: &[u8; 1536], out: &mut [u16])
-    requires { length out.old ≡ 1536 }
+fn two_bytes(x: &[u8; 1536], y: &[u8; 1536], out: &mut [u16; 1536])
     ensures { out.new ≡ tabulate 1536 (λ i. get_or x.now i 0 + get_or y.now i 0 * 256) }
 {
-    let mut i: usize = 0;
-    while i < 1536 {
-        out[i] = wide(x[i]) + wide(y[i]) * 256;
-        i += 1;
+    for (i, two) in out.iter_mut().enumerate() {
+        *two = u16::from_le_bytes([x[i], y[i]]);
     }
 }
 
 // The bytes of both, two and two in turn.
-fn write_two_bytes(x: &[u16], y: &[u16], out: &mut [u8])
-    requires { (length x.now ≡ 1536) × (length y.now ≡ 1536) × (length out.old ≡ 6144) }
+fn write_two_bytes(x: &[u16; 1536], y: &[u16; 1536], out: &mut [u8; 6144])
     ensures { out.new ≡ tabulate 6144 (byte_of_two x.now y.now) }
 {
-    let mut i: usize = 0;
-    while i < 1536 {
-        let v = x[i];
-        let w = y[i];
+    for i in 0..1536 {
         let at = 4 * i;
-        out[at] = (v % 256) as u8;
-        out[at + 1] = (v / 256) as u8;
-        out[at + 2] = (w % 256) as u8;
-        out[at + 3] = (w / 256) as u8;
-        i += 1;
+        out[at..at + 2].copy_from_slice(&x[i].to_le_bytes());
+        out[at + 2..at + 4].copy_from_slice(&y[i].to_le_bytes());
     }
 }
 
 // The symbols of a frame from the bytes of its words; what stands in the pilots' places is no symbol.
-fn map_bytes(b: &[u8; 6144], frame: &mut [u8])
-    requires { length frame.old ≡ 6144 }
+fn map_bytes(b: &[u8; 6144], frame: &mut [u8; 6144])
     ensures { frame.new ≡ tabulate 6144 (λ t. quarter_at b.now (t % 4) (t / 4)) }
 {
-    let mut s0 = [0u8; 1536];
-    quarter(b, 0, &mut s0);
-    let mut s1 = [0u8; 1536];
-    quarter(b, 1, &mut s1);
-    let mut s2 = [0u8; 1536];
-    quarter(b, 2, &mut s2);
-    let mut s3 = [0u8; 1536];
-    quarter(b, 3, &mut s3);
+    let mut s = [[0u8; 1536]; 4];
+    quarter::<0>(b, &mut s[0]);
+    quarter::<1>(b, &mut s[1]);
+    quarter::<2>(b, &mut s[2]);
+    quarter::<3>(b, &mut s[3]);
     let mut x = [0u16; 1536];
-    two_bytes(&s0, &s1, &mut x);
+    two_bytes(&s[0], &s[1], &mut x);
     let mut y = [0u16; 1536];
-    two_bytes(&s2, &s3, &mut y);
+    two_bytes(&s[2], &s[3], &mut y);
     write_two_bytes(&x, &y, frame);
 }
 
 // The pilots at their places.
-fn put_pilots(p: &[u8; 96], frame: &mut [u8])
-    requires p_value { p.now ≡ pilots }
-    requires frame_len { length frame.old ≡ 6144 }
+fn put_pilots(frame: &mut [u8; 6144])
     ensures { frame.new ≡ tabulate 6144 (λ t. cond (eqb (t % 64) 0) (get_or pilots (t / 64) 0) (get_or frame.old t 0)) }
 {
-    let mut g: usize = 0;
-    while g < 96 {
-        frame[64 * g] = p[g];
-        g += 1;
+    let pilots = pilots::pilots();
+    for (g, pilot) in pilots.iter().enumerate() {
+        frame[64 * g] = *pilot;
     }
 }
 
@@ -157,9 +120,8 @@ fn put_pilots(p: &[u8; 96], frame: &mut [u8])
 pub fn frame_from_words(words: &[u64; 768], frame: &mut [u8; 6144])
     ensures { frame.new ≡ frame_of words.now }
 {
-    let p = pilots::pilots();
     let mut placed = [0u8; 6144];
     shuffle::shuffle_words(words, &mut placed);
     map_bytes(&placed, frame);
-    put_pilots(&p, frame);
+    put_pilots(frame);
 }

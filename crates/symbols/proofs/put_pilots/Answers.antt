@@ -1,5 +1,5 @@
 -- `symbols::put_pilots` meets its contract: the pilots before pilot g are there. Assumes nothing.
-use mathlib.Core.Path.{sym, ap, ◌∙◌}
+use mathlib.Core.Path.{ap}
 use mathlib.Core.List.{List}
 use Prim.Native.Nat.{ℕ}
 use native.Mathlib.Omega.{arith}
@@ -8,16 +8,11 @@ use Rattle.symbols.proofs.Symbols.{piloted_start, piloted_step, piloted_done}
 use Rattle.symbols.proofs.put_pilots.Goals as goal
 
 pub loop-g-init : goal.loop-g-init
-loop-g-init c = piloted_start c.requires.frame_len
-
-pub bounds-frame-g : goal.bounds-frame-g
-bounds-frame-g c = omega (arith, c.loop-g.invariant.long)
+loop-g-init c = piloted_start (omega arith)
 
 pub loop-g-preserved : goal.loop-g-preserved
-loop-g-preserved c = piloted_step c.loop-g.invariant c.loop-g-test.true (ap (λ (t : List ℕ). get_or t c.loop-g.g 0) c.requires.p_value)
-
-pub shape_of-frame : goal.shape_of-frame
-shape_of-frame c = c.loop-g.invariant.long ∙ sym c.requires.frame_len
+loop-g-preserved c =
+    piloted_step c.loop-g.invariant c.loop-g-test.true (ap (λ (t : List ℕ). get_or t c.loop-g.g 0) c.pilots-pilots.ensures)
 
 pub returns : goal.returns
 returns c = piloted_done c.loop-g.invariant (omega arith)

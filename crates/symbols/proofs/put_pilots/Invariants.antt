@@ -1,10 +1,6 @@
 -- `symbols::put_pilots` meets its contract: the pilots before pilot g are there. Assumes nothing.
-use Prim.Native.Nat.{◌-◌}
 use Rattle.symbols.proofs.Symbols.{Piloted}
 use Rattle.symbols.proofs.put_pilots.Given as goal
 
 abbrev pub invariant-loop-g : goal.invariant-loop-g
 invariant-loop-g l = Piloted l.initial.frame l.g l.frame
-
-abbrev pub decreases-loop-g : goal.decreases-loop-g
-decreases-loop-g l = 96 - l.g

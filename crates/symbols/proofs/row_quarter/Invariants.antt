@@ -1,12 +1,8 @@
 -- `symbols::row_quarter` meets its contract: the symbols before symbol i are there. Assumes nothing.
-use Prim.Native.Nat.{◌+◌, ◌-◌}
-use lib.ListN.{length}
+use Prim.Native.Nat.{◌+◌, ◌*◌}
 use Rattle.bits.proofs.Filling.{Filling}
-use Rattle.symbols.specs.private.Numbers.{mapped, dibits_at}
+use Rattle.symbols.specs.private.Numbers.{quarter_at}
 use Rattle.symbols.proofs.row_quarter.Given as goal
 
 abbrev pub invariant-loop-i : goal.invariant-loop-i
-invariant-loop-i l = Filling (λ k. mapped l.l (dibits_at l.b l.e (l.at + k))) (length l.initial.out) l.initial.out l.out l.i
-
-abbrev pub decreases-loop-i : goal.decreases-loop-i
-decreases-loop-i l = 16 - l.i
+invariant-loop-i g l = Filling (λ k. quarter_at l.b g.row.E (64 * l.q + 16 * g.row.R + k)) 16 l.initial.place-items l.place-items l.i
