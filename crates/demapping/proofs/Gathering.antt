@@ -1,15 +1,17 @@
 -- From symbols to words: a word's byte from four symbols, the frame's symbols in four lists, one in each in turn, and the words of a frame with their bits
 -- at their places and back from them.
 -- Assumes nothing.
-use mathlib.Core.Path.{◌≡◌, refl, sym, ap, ap₂, ◌∙◌}
+use mathlib.Core.Path.{◌≡◌, refl, sym, ap, ap₂, ◌∙◌, subst}
 use mathlib.Core.Bool.{Bool, cond}
-use mathlib.Core.List.{List}
+use mathlib.Core.List.{List, []}
 use Prim.Native.Nat.{ℕ, zero, suc, ◌+◌, ◌-◌, ◌*◌, ◌/◌, ◌%◌, ◌^◌, ◌<◌, ◌≤◌, zero-le}
-use native.Mathlib.Nat.{add-zero}
+use native.Mathlib.Nat.{add-zero, mul-suc}
 use native.Mathlib.Omega.{arith}
 use lib.Dec.{T, eqb, eqb→eq}
 use lib.ListN.{length, get_or, set, take, drop}
-use lib.Seq.{get_or-drop, get_or-take}
+use Rattle.std.specs.Int.{w16, to_le_bytes}
+use Rattle.std.specs.Simd.{first_chunks}
+use lib.Seq.{get_or-drop, get_or-take, drop-drop}
 use borrow.Author.Tests.{eq-eqb, lt-ltb, le-ltb}
 use Rattle.bits.specs.definitions.Bits.{value, number, bit_of, bit_at, field_at, tabulate, AllBytes}
 use Rattle.bits.specs.definitions.Words.{word_of, word_at}
@@ -24,17 +26,12 @@ use Rattle.shuffle.specs.definitions.Shuffle.{place, unshuffled}
 use Rattle.shuffle.proofs.Places.{place_lt}
 use Rattle.symbols.specs.definitions.Mapping.{payload_at, symbol_of, tributary_of, bit_in}
 use Rattle.symbols.specs.definitions.Frame.{placed_bit, arrived, words_of}
-use Rattle.symbols.specs.definitions.Dibits.{dibit_in, swapped}
-use Rattle.symbols.specs.private.Numbers.{tributary_in}
-use Rattle.symbols.proofs.Symbols.{fours, turned, counted_mod, counted_row, put_part}
+use Rattle.symbols.specs.definitions.Dibits.{dibit_in, swapped, turned, tributary_in}
+use Rattle.symbols.proofs.Symbols.{fours, tributary_lt, counted_mod, counted_row, put_part, part_put}
 use Rattle.demapping.specs.definitions.Frame.{ReadsFrame}
-use Rattle.demapping.specs.private.Gathering.{dibit_of, gathered, parted_at, halves_at, gathered_from, rows_at, gathered_at}
+use Rattle.demapping.specs.private.Gathering.{gathered_turned, dibit_of, gathered, parted_at, gathered_from, rows_at, gathered_at}
 
 -- ---- a lane's dibit of a symbol
-
-tributary_lt : (l r : ℕ) → tributary_in l r < 4
-unfolding tributary_in
-tributary_lt l r = omega arith
 
 dibit_lt : (l r x : ℕ) → dibit_of l r x < 4
 unfolding dibit_of
@@ -80,15 +77,14 @@ turned_dibit p t x hp ht hx =
     ∙ eqb→eq _ _ (range_rule (λ k. turned_ok (k / 1024) (k / 256 % 4) (k % 256)) 2048 0 turned_test k (omega arith) (omega arith))
     ∙ λ i. bit_of 8 (ex i) (2 * et i + ep i) * 2 + bit_of 8 (ex i) (2 * et i + (ep i + 1) % 2)
 
--- what the code takes out
-pub dibit_law : (l q x v : ℕ) → x < 256 → v ≡ turned l x → dibit_in ((q + 3 * (2 * l + l / 2 % 2)) % 4) v ≡ dibit_of l q x
-unfolding dibit_of tributary_in
-dibit_law l q x v h e =
+turned_is : (l r x : ℕ) → x < 256 → dibit_in (tributary_in l r) (turned l x) ≡ dibit_of l r x
+unfolding dibit_of
+turned_is l r x h =
     let p : l % 2 ≡ l % 2 % 2 = omega arith in
     let n : (l % 2 + 1) % 2 ≡ (l + 1) % 2 = omega arith in
-    let t = (q + 3 * (2 * l + l / 2 % 2)) % 4 in
-    ap (dibit_in t) (e ∙ ap (λ (n : ℕ). cond (eqb n 1) (swapped x) x) p)
-    ∙ turned_dibit (l % 2) t x (omega arith) (omega arith) h
+    let t = tributary_in l r in
+    ap (λ (n : ℕ). dibit_in t (cond (eqb n 1) (swapped x) x)) p
+    ∙ turned_dibit (l % 2) t x (omega arith) (tributary_lt l r) h
     ∙ ap (λ (n : ℕ). bit_of 8 x (2 * t + l % 2) * 2 + bit_of 8 x (2 * t + n)) n
 
 -- ---- a word's byte of four symbols
@@ -99,16 +95,30 @@ gathered_same l m r a b c d e =
     λ k. dibit_same l m r a e k * 64 + dibit_same (l + 1) (m + 1) r b (omega arith) k * 16 + dibit_same (l + 2) (m + 2) r c (omega arith) k * 4
     + dibit_same (l + 3) (m + 3) r d (omega arith) k
 
--- from what the code puts at each place
-pub gathered_sum : (l q a b c d w x y z : ℕ) → w ≡ dibit_of l q a * 4 ^ (3 - 0) → x ≡ dibit_of ((l + 1) % 4) q b * 4 ^ (3 - 1)
-    → y ≡ dibit_of ((l + 2) % 4) q c * 4 ^ (3 - 2) → z ≡ dibit_of ((l + 3) % 4) q d * 4 ^ (3 - 3)
-    → (w + x + y + z ≡ gathered l q a b c d) × (w + x + y + z < 256)
-unfolding gathered
-gathered_sum l q a b c d w x y z ew ex ey ez =
-    let eb = dibit_same ((l + 1) % 4) (l + 1) q b (omega arith) in
-    let ec = dibit_same ((l + 2) % 4) (l + 2) q c (omega arith) in
-    let ed = dibit_same ((l + 3) % 4) (l + 3) q d (omega arith) in
-    (omega arith, omega (arith, dibit_lt l q a, dibit_lt (l + 1) q b, dibit_lt (l + 2) q c, dibit_lt (l + 3) q d))
+-- of symbols that are turned
+gathered_is : (l q a b c d : ℕ) → a < 256 → b < 256 → c < 256 → d < 256
+    → gathered_turned l q (turned l a) (turned (l + 1) b) (turned (l + 2) c) (turned (l + 3) d) ≡ gathered l q a b c d
+unfolding gathered gathered_turned
+gathered_is l q a b c d ha hb hc hd =
+    λ k. turned_is l q a ha k * 64 + turned_is (l + 1) q b hb k * 16 + turned_is (l + 2) q c hc k * 4 + turned_is (l + 3) q d hd k
+
+-- from what the code takes out, and puts at each place
+pub gathered_sum : (l q a b c d : ℕ) {s t u v w x y z : ℕ}
+    → s ≡ tributary_in l q → t ≡ tributary_in (l + 1) q → u ≡ tributary_in (l + 2) q → v ≡ tributary_in (l + 3) q
+    → w ≡ dibit_in (s % 4) a * 64 → x ≡ dibit_in (t % 4) b * 16 → y ≡ dibit_in (u % 4) c * 4 → z ≡ dibit_in (v % 4) d * 1
+    → (w + x + y + z ≡ gathered_turned l q a b c d) × (w + x + y + z < 256)
+unfolding gathered_turned
+gathered_sum l q a b c d {s} {t} {u} {v} es et eu ev ew ex ey ez =
+    let n = taken l s a es in
+    let o = taken (l + 1) t b et in
+    let p = taken (l + 2) u c eu in
+    let r = taken (l + 3) v d ev in
+    (omega arith, omega arith)
+  where
+    taken : (m t x : ℕ) → t ≡ tributary_in m q → dibit_in (t % 4) x ≡ dibit_in (tributary_in m q) x
+    taken m t x e =
+        let k : t % 4 ≡ tributary_in m q = omega (arith, tributary_lt m q) in
+        ap (λ (n : ℕ). dibit_in n x) k
 
 -- its bits
 module _ (l r : ℕ) (s : ℕ → ℕ) where
@@ -140,62 +150,74 @@ module _ (l r : ℕ) (s : ℕ → ℕ) where
 
 module _ (s : List ℕ) where
   -- byte i of each of a row's words
-  pub words_step : (l at i a b c d : ℕ) {out : List ℕ} → FourParts (λ j. gathered_from s l (j / 16) (at + j % 16)) 16 out i → i < 16
-      → a ≡ gathered_from s l 0 (at + i) → b ≡ gathered_from s l 1 (at + i) → c ≡ gathered_from s l 2 (at + i) → d ≡ gathered_from s l 3 (at + i)
-      → FourParts (λ j. gathered_from s l (j / 16) (at + j % 16)) 16 (set (set (set (set out i a) (16 + i) b) (32 + i) c) (48 + i) d) (i + 1)
-  words_step l at i a b c d S h ea eb ec ed =
-      parts_step _ S h (refl, refl, refl) (ea ∙ word 0 i (omega arith)) (eb ∙ word 1 (16 + i) (omega arith)) (ec ∙ word 2 (32 + i) (omega arith))
-      (ed ∙ word 3 (48 + i) (omega arith))
+  pub words_step : (l at i : ℕ) {a b c d w x y z : ℕ} {out : List ℕ} → AllBytes s → FourParts (λ j. gathered_from s l (j / 16) (at + j % 16)) 16 out i → i < 16
+      → let m = at + i in
+      a ≡ turned l (get_or s m 0) → b ≡ turned (l + 1) (get_or s (m + 512) 0)
+      → c ≡ turned (l + 2) (get_or s (m + 256) 0) → d ≡ turned (l + 3) (get_or s (m + 768) 0)
+      → w ≡ gathered_turned l 0 a b c d → x ≡ gathered_turned l 1 a b c d → y ≡ gathered_turned l 2 a b c d → z ≡ gathered_turned l 3 a b c d
+      → FourParts (λ j. gathered_from s l (j / 16) (at + j % 16)) 16 (set (set (set (set out i w) (16 + i) x) (32 + i) y) (48 + i) z) (i + 1)
+  unfolding gathered_from
+  words_step l at i {a} {b} {c} {d} B S h ea eb ec ed ew ex ey ez =
+      parts_step _ S h (refl, refl, refl) (ew ∙ word 0 i (omega arith)) (ex ∙ word 1 (16 + i) (omega arith)) (ey ∙ word 2 (32 + i) (omega arith))
+      (ez ∙ word 3 (48 + i) (omega arith))
     where
-      word : (q j : ℕ) → j ≡ 16 * q + i → gathered_from s l q (at + i) ≡ gathered_from s l (j / 16) (at + j % 16)
+      word : (q j : ℕ) → j ≡ 16 * q + i → gathered_turned l q a b c d ≡ gathered_from s l (j / 16) (at + j % 16)
       word q j e =
-          let d : q ≡ j / 16 = omega arith in
-          let m : i ≡ j % 16 = omega arith in
-          λ x. gathered_from s l (d x) (at + m x)
+          let m = at + i in
+          let n : q ≡ j / 16 = omega arith in
+          let o : i ≡ j % 16 = omega arith in
+          (λ k. gathered_turned l q (ea k) (eb k) (ec k) (ed k))
+          ∙ gathered_is l q _ _ _ _ (B.byte m) (B.byte (m + 512)) (B.byte (m + 256)) (B.byte (m + 768))
+          ∙ λ k. gathered_from s l (n k) (at + o k)
 
-  -- row g is lent, and filled
-  rows_step : (q l at g o end : ℕ) {n : ℕ} {out₀ out part : List ℕ} → o ≡ 64 * g → end ≡ o + 64 → end ≤ n → at ≡ 64 * q + 16 * g → l % 4 ≡ (3 * g + 3) % 4
-      → Filling (λ i. rows_at s (256 * q + i)) n out₀ out o
-      → part ≡ tabulate (length (take (end - o) (drop o out))) (λ i. gathered_from s l (i / 16) (at + i % 16))
-      → Filling (λ i. rows_at s (256 * q + i)) n out₀ (put_part o end out part) end
+  -- the words of four rows are put, one after another
+  pub rows_step : (q : ℕ) {out₀ out a₀ a₁ a₂ a₃ : List ℕ} → q < 4
+      → let o = 256 * q in
+      let at = 64 * q in
+      Filling (rows_at s) 1024 out₀ out o
+      → a₀ ≡ tabulate 64 (λ i. gathered_from s 3 (i / 16) (at + i % 16)) → a₁ ≡ tabulate 64 (λ i. gathered_from s 2 (i / 16) (at + 16 + i % 16))
+      → a₂ ≡ tabulate 64 (λ i. gathered_from s 1 (i / 16) (at + 32 + i % 16)) → a₃ ≡ tabulate 64 (λ i. gathered_from s 0 (i / 16) (at + 48 + i % 16))
+      → Filling (rows_at s) 1024 out₀
+      (put_part (o + 192) (o + 256) (put_part (o + 128) (o + 192) (put_part (o + 64) (o + 128) (put_part o (o + 64) out a₀) a₁) a₂) a₃) (256 * (q + 1))
   unfolding gathered_from rows_at
-  rows_step q l at g o end {n} {out₀} {out} {part} eo ee le ea el F p =
-      filling_put _ end part (λ _ i. gathered_from s l (i / 16) (at + i % 16)) F (omega arith) le p row
+  rows_step q {out₀} h F p₀ p₁ p₂ p₃ =
+      let o = 256 * q in
+      let at = 64 * q in
+      let next : o + 256 ≡ 256 * (q + 1) = omega arith in
+      subst (Filling (rows_at s) 1024 out₀ _) next
+      (row 3 0 (at + 48) (o + 192) (o + 256) refl (omega arith) (omega arith) refl refl p₃
+      (row 2 1 (at + 32) (o + 128) (o + 192) refl (omega arith) (omega arith) refl refl p₂
+      (row 1 2 (at + 16) (o + 64) (o + 128) refl (omega arith) (omega arith) refl refl p₁
+      (row 0 3 at o (o + 64) (omega arith) refl (omega arith) (omega arith) refl p₀ F))))
     where
-      row : (k : ℕ) → k < end - o → gathered_from s l (k / 16) (at + k % 16) ≡ rows_at s (256 * q + (o + k))
-      row k h =
-          let i = 256 * q + (o + k) in
-          let d : i / 64 ≡ 4 * q + g = omega arith in
-          let w : k / 16 ≡ i / 16 % 4 = omega arith in
-          let c : k % 16 ≡ i % 16 = omega arith in
-          let m : at + k % 16 ≡ 16 * (i / 64) + i % 16 = place (i / 64) (k % 16) (i % 16) d c in
-          gathered_same l (3 * (i / 64) + 3) (k / 16) _ _ _ _ (el ∙ remainder (i / 64) d)
-          ∙ λ x. gathered (3 * (i / 64) + 3) (w x) (get_or s (m x) 0) (get_or s (m x + 512) 0) (get_or s (m x + 256) 0) (get_or s (m x + 768) 0)
+      row : (r l at o end : ℕ) {out part : List ℕ} → o ≡ 256 * q + 64 * r → end ≡ o + 64 → end ≤ 1024 → at ≡ 64 * q + 16 * r → l % 4 ≡ (3 * r + 3) % 4
+          → part ≡ tabulate 64 (λ i. gathered_from s l (i / 16) (at + i % 16))
+          → Filling (rows_at s) 1024 out₀ out o → Filling (rows_at s) 1024 out₀ (put_part o end out part) end
+      row r l at o end eo ee le ea el p = part_put (rows_at s) _ 64 o end p ee le agree
         where
-          place : (a b c : ℕ) → a ≡ 4 * q + g → b ≡ c → at + b ≡ 16 * a + c
-          place a b c e f = omega arith
+          agree : (k : ℕ) → k < 64 → gathered_from s l (k / 16) (at + k % 16) ≡ rows_at s (o + k)
+          agree k h =
+              let i = o + k in
+              let d : i / 64 ≡ 4 * q + r = omega arith in
+              let w : k / 16 ≡ i / 16 % 4 = omega arith in
+              let c : k % 16 ≡ i % 16 = omega arith in
+              let m : at + k % 16 ≡ 16 * (i / 64) + i % 16 = place (i / 64) (k % 16) (i % 16) d c in
+              gathered_same l (3 * (i / 64) + 3) (k / 16) _ _ _ _ (el ∙ remainder (i / 64) d)
+              ∙ λ x. gathered (3 * (i / 64) + 3) (w x) (get_or s (m x) 0) (get_or s (m x + 512) 0) (get_or s (m x + 256) 0) (get_or s (m x + 768) 0)
+            where
+              place : (a b c : ℕ) → a ≡ 4 * q + r → b ≡ c → at + b ≡ 16 * a + c
+              place a b c e f = omega arith
 
-          remainder : (a : ℕ) → a ≡ 4 * q + g → (3 * g + 3) % 4 ≡ (3 * a + 3) % 4
-          remainder a e = fours (3 * g + 3) (3 * a + 3) (3 * q) (omega arith)
-
-  -- four rows, one after another
-  pub rows_four : (q n : ℕ) (out : List ℕ) {a₀ a₁ a₂ a₃ : List ℕ} → length out ≡ n → n ≡ 256
-      → let out₁ = put_part 0 64 out a₀ in
-      let out₂ = put_part 64 128 out₁ a₁ in
-      let out₃ = put_part 128 192 out₂ a₂ in
-      a₀ ≡ tabulate (length (take 64 (drop 0 out))) (λ i. gathered_from s 3 (i / 16) (64 * q + i % 16))
-      → a₁ ≡ tabulate (length (take 64 (drop 64 out₁))) (λ i. gathered_from s 2 (i / 16) (64 * q + 16 + i % 16))
-      → a₂ ≡ tabulate (length (take 64 (drop 128 out₂))) (λ i. gathered_from s 1 (i / 16) (64 * q + 32 + i % 16))
-      → a₃ ≡ tabulate (length (take 64 (drop 192 out₃))) (λ i. gathered_from s 0 (i / 16) (64 * q + 48 + i % 16))
-      → put_part 192 256 out₃ a₃ ≡ tabulate n (λ i. rows_at s (256 * q + i))
-  rows_four q n out e h p₀ p₁ p₂ p₃ =
-      filling_done _
-      (rows_step q 0 (64 * q + 48) 3 192 256 refl refl (omega arith) refl refl
-      (rows_step q 1 (64 * q + 32) 2 128 192 refl refl (omega arith) refl refl
-      (rows_step q 2 (64 * q + 16) 1 64 128 refl refl (omega arith) refl refl
-      (rows_step q 3 (64 * q) 0 0 64 refl refl (omega arith) (omega arith) refl (filling_start _ {out₀ = out} e) p₀) p₁) p₂) p₃) (omega arith)
+              remainder : (a : ℕ) → a ≡ 4 * q + r → (3 * r + 3) % 4 ≡ (3 * a + 3) % 4
+              remainder a e = fours (3 * r + 3) (3 * a + 3) (3 * q) (omega arith)
 
 -- ---- a frame's symbols in four lists, one in each in turn
+
+-- a byte of two in a number
+pub byte_is : (n k : ℕ) {b : List ℕ} → k < 2 → b ≡ to_le_bytes w16 n → get_or b k 0 ≡ n / 256 ^ k % 256
+byte_is n zero h e = ap (λ (b : List ℕ). get_or b 0 0) e ∙ omega arith
+byte_is n (suc zero) h e = ap (λ (b : List ℕ). get_or b 1 0) e
+byte_is n (suc (suc k)) h e = absurd (omega arith)
 
 -- two bytes in a number
 module _ (s w : List ℕ) (n : ℕ) (B : AllBytes s) (e : w ≡ tabulate n (λ i. get_or s (2 * i) 0 + get_or s (2 * i + 1) 0 * 256)) where
@@ -204,28 +226,28 @@ module _ (s w : List ℕ) (n : ℕ) (B : AllBytes s) (e : w ≡ tabulate n (λ i
 
   -- the first bytes, and then the second ones
   pub parted : (m : ℕ) (out : List ℕ) {a b : List ℕ} → length out ≡ m → m ≡ 2 * n
-      → a ≡ tabulate (length (take (n - 0) (drop 0 out))) (λ i. get_or w i 0 % 256)
-      → b ≡ tabulate (length (take (m - n) (drop n (put_part 0 n out a)))) (λ i. get_or w i 0 / 256)
+      → a ≡ tabulate (length (take (n - 0) (drop 0 out))) (λ i. get_or w i 0 / 256 ^ 0 % 256)
+      → b ≡ tabulate (length (take (m - n) (drop n (put_part 0 n out a)))) (λ i. get_or w i 0 / 256 ^ 1 % 256)
       → put_part n m (put_part 0 n out a) b ≡ tabulate m (parted_at m s)
   unfolding parted_at
   parted m out l h p q =
       filling_done _
-      (filling_put _ m _ (λ _ i. get_or w i 0 / 256)
-      (filling_put _ n _ (λ _ i. get_or w i 0 % 256) (filling_start _ {out₀ = out} l) zero-le (omega arith) p even) (omega arith) (omega arith) q odd)
+      (filling_put _ m _ (λ _ i. get_or w i 0 / 256 ^ 1 % 256)
+      (filling_put _ n _ (λ _ i. get_or w i 0 / 256 ^ 0 % 256) (filling_start _ {out₀ = out} l) zero-le (omega arith) p even) (omega arith) (omega arith) q odd)
       (omega arith)
     where
       half : m / 2 ≡ n
       half = omega arith
 
-      even : (k : ℕ) → k < n - 0 → get_or w k 0 % 256 ≡ parted_at m s (0 + k)
+      even : (k : ℕ) → k < n - 0 → get_or w k 0 / 256 ^ 0 % 256 ≡ parted_at m s (0 + k)
       even k c =
           let z : 0 + k ≡ k = omega arith in
           rw (half, z, lt-ltb k n (omega arith)) (omega (arith, pair_at k (omega arith), B.byte (2 * k)))
 
-      odd : (k : ℕ) → k < m - n → get_or w k 0 / 256 ≡ parted_at m s (n + k)
+      odd : (k : ℕ) → k < m - n → get_or w k 0 / 256 ^ 1 % 256 ≡ parted_at m s (n + k)
       odd k c =
           let z : n + k - n ≡ k = omega arith in
-          rw (half, le-ltb (n + k) n (omega arith), z) (omega (arith, pair_at k (omega arith), B.byte (2 * k)))
+          rw (half, le-ltb (n + k) n (omega arith), z) (omega (arith, pair_at k (omega arith), B.byte (2 * k), B.byte (2 * k + 1)))
 
 -- byte j of the first list, or of the second
 parted_at_lem : (n : ℕ) (s : List ℕ) (v i j : ℕ) → v < 2 → j < n / 2 → i ≡ n / 2 * v + j → parted_at n s i ≡ get_or s (2 * j + v) 0
@@ -238,6 +260,10 @@ parted_at_lem n s (suc zero) i j h l e =
     let a : i - n / 2 ≡ j = omega arith in
     rw (le-ltb i (n / 2) (omega arith), a)
 parted_at_lem n s (suc (suc v)) i j h l e = absurd (omega arith)
+
+-- byte i of two halves of 512 bytes, each of which is in two lists so
+unfoldable pub halves_at : List ℕ → ℕ → ℕ
+halves_at s i = parted_at 512 (drop (512 * (i / 512)) s) (i % 512)
 
 -- both halves are lent, and parted
 pub halves_are : (s out : List ℕ) {a b : List ℕ} → length out ≡ 1024
@@ -279,11 +305,11 @@ module _ (s two four : List ℕ) (m : ℕ) (long : m ≡ 1024) (e : two ≡ tabu
       ∙ (λ x. parted_at 512 (drop (512 * d x) two) (n x)) ∙ parted_at_lem 512 (drop (512 * u) two) v (256 * v + j) j hv hj refl
       ∙ get_or-drop (512 * u) two (2 * j + v) 0 ∙ two_at u (2 * j + v) hu (omega arith) ∙ ap (λ (n : ℕ). get_or s n 0) o
 
-  pub rows_gathered : (out : List ℕ) (n : ℕ) → out ≡ tabulate 1024 (rows_at four) → n ≡ 1024 → out ≡ tabulate n (gathered_at s)
+  pub rows_gathered : (out : List ℕ) → out ≡ tabulate 1024 (rows_at four) → out ≡ tabulate 1024 (gathered_at s)
   unfolding rows_at gathered_from gathered_at
-  rows_gathered out n r h =
-      r ∙ ap (λ (k : ℕ). tabulate k (rows_at four)) (sym h)
-      ∙ tabulate_cong n _ _ (λ i c.
+  rows_gathered out r =
+      r
+      ∙ tabulate_cong 1024 _ _ (λ i c.
       let j = 16 * (i / 64) + i % 16 in
       let b : j < 256 = omega arith in
       let o = 64 * (i / 64) + 4 * (i % 16) in
@@ -292,22 +318,37 @@ module _ (s two four : List ℕ) (m : ℕ) (long : m ≡ 1024) (e : two ≡ tabu
       (four_at 0 1 j (j + 256) (o + 2) b (omega arith) (omega arith) (omega arith) (omega arith) x)
       (four_at 1 1 j (j + 768) (o + 3) b (omega arith) (omega arith) (omega arith) (omega arith) x))
 
--- sixteen rows of a frame are lent, and gathered
-pub gather_step : (f : List ℕ) (g from end : ℕ) {out₀ out part : List ℕ} → g < 6 → from ≡ 1024 * g → end ≡ from + 1024
-    → Filling (gathered_at f) 6144 out₀ out from
-    → part ≡ tabulate (length (take (end - from) (drop from out))) (gathered_at (take (end - from) (drop from f)))
-    → Filling (gathered_at f) 6144 out₀ (put_part from end out part) end
+-- chunk g of a list
+chunk_at : (n k : ℕ) (s : List ℕ) (g : ℕ) → g < k → get_or (first_chunks n k s) g [] ≡ take n (drop (n * g) s)
+chunk_at n zero s g h = absurd (omega arith)
+chunk_at n (suc k) s zero h = let e : n * 0 ≡ 0 = omega arith in rw e
+chunk_at n (suc k) s (suc g) h =
+    let e : n + n * g ≡ n * suc g = rw mul-suc (omega arith) in
+    chunk_at n k (drop n s) g (omega arith) ∙ ap (take n) (drop-drop (n * g) n s ∙ ap (λ (m : ℕ). drop m s) e)
+
+-- sixteen rows of a frame are gathered, and put
+pub gather_step : (f : List ℕ) (g k : ℕ) {out₀ out part : List ℕ} {parts : List (List ℕ)} → g < k → k ≤ 6 → parts ≡ first_chunks 1024 k f
+    → Filling (gathered_at f) 6144 out₀ out (1024 * g) → part ≡ tabulate 1024 (gathered_at (get_or parts g []))
+    → Filling (gathered_at f) 6144 out₀ (put_part (1024 * g) (1024 * g + 1024) out part) (1024 * (g + 1))
 unfolding gathered_at
-gather_step f g from end {out₀} {out} {part} hg ef ee F p =
-    filling_put _ end part (λ _. gathered_at (take (end - from) (drop from f))) F (omega arith) (omega arith) p (λ i h.
+gather_step f g n {out₀} {parts = parts} hg hn ef F p =
+    let next : 1024 * g + 1024 ≡ 1024 * (g + 1) = omega arith in
+    subst (Filling (gathered_at f) 6144 out₀ _) next
+    (part_put (gathered_at f) (gathered_at s) 1024 from (from + 1024) p refl (omega arith) (λ i h.
     let t = from + i in
     let d : t / 64 ≡ 16 * g + i / 64 = omega arith in
     let q : i / 16 % 4 ≡ t / 16 % 4 = omega arith in
     let k : i % 16 ≡ t % 16 = omega arith in
     gathered_same (3 * (i / 64) + 3) (3 * (t / 64) + 3) (i / 16 % 4) _ _ _ _ (remainder (i / 64) (t / 64) d)
     ∙ symbols (3 * (t / 64) + 3) (64 * (i / 64) + 4 * (i % 16)) (64 * (t / 64) + 4 * (t % 16)) q (place (i / 64) (t / 64) (i % 16) (t % 16) d k)
-    (inside i (omega arith)))
+    (inside i h)) F)
   where
+    from : ℕ
+    from = 1024 * g
+
+    s : List ℕ
+    s = get_or parts g []
+
     remainder : (a b : ℕ) → b ≡ 16 * g + a → (3 * a + 3) % 4 ≡ (3 * b + 3) % 4
     remainder a b e = fours (3 * a + 3) (3 * b + 3) (12 * g) (omega arith)
 
@@ -317,11 +358,10 @@ gather_step f g from end {out₀} {out} {part} hg ef ee F p =
     place : (a b c d : ℕ) → b ≡ 16 * g + a → c ≡ d → from + (64 * a + 4 * c) ≡ 64 * b + 4 * d
     place a b c d e k = omega arith
 
-    s : List ℕ
-    s = take (end - from) (drop from f)
-
     at : (j k : ℕ) → j < 1024 → from + j ≡ k → get_or s j 0 ≡ get_or f k 0
-    at j k l e = get_or-take (end - from) (drop from f) j 0 (omega arith) ∙ get_or-drop from f j 0 ∙ ap (λ (n : ℕ). get_or f n 0) e
+    at j k l e =
+        ap (λ (c : List (List ℕ)). get_or (get_or c g []) j 0) ef ∙ ap (λ (c : List ℕ). get_or c j 0) (chunk_at 1024 n f g hg)
+        ∙ get_or-take 1024 (drop from f) j 0 l ∙ get_or-drop from f j 0 ∙ ap (λ (n : ℕ). get_or f n 0) e
 
     symbols : (l o u : ℕ) {q r : ℕ} → q ≡ r → from + o ≡ u → o + 3 < 1024
         → gathered l q (get_or s o 0) (get_or s (o + 1) 0) (get_or s (o + 2) 0) (get_or s (o + 3) 0)

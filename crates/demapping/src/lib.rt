@@ -4,81 +4,57 @@
 // the remainder by 4 counts: 63 g + 3 is the number in the pilot's place, where a word has two bits more than its 126.
 #![tactic(auto)]
 
-ghost use Rattle.std.specs.Prelude.{◌≡◌, ◌<◌, ◌≤◌, ◌+◌, ◌*◌, ◌-◌, ◌/◌, ◌%◌, ◌^◌, get_or, length};
+ghost use Rattle.std.specs.Prelude.{◌≡◌, ◌<◌, ◌≤◌, ◌+◌, ◌*◌, ◌-◌, ◌/◌, ◌%◌, ◌^◌, get_or, length, is_ok, IfErr};
 ghost use Rattle.bits.specs.definitions.Bits.{tabulate, field_at};
 ghost use Rattle.symbols.specs.definitions.Frame.{words_of};
 ghost use Rattle.demapping.specs.definitions.Frame.{ReadsFrame};
-ghost use Rattle.demapping.specs.private.Gathering.{dibit_of, gathered, parted_at, halves_at, gathered_from, rows_at, gathered_at};
+ghost use Rattle.demapping.specs.private.Gathering.{gathered_turned, parted_at, gathered_from, rows_at, gathered_at};
 
-// The dibit of lane q, of the row's four, in the byte of symbol l, put at dibit e.
-fn lane_dibit(x: u8, l: u8, q: u8, e: u8) -> u8
-    requires { (l < 4) × (q < 4) × (e < 4) }
-    ensures { result ≡ dibit_of l q x * 4 ^ (3 - e) }
-{
-    let f = 3 * (2 * l + l / 2 % 2);
-    let t = (q + f) % 4;
-    if l % 2 == 1 {
-        return symbols::put_dibit(symbols::swapped(x), t, e);
-    }
-    symbols::put_dibit(x, t, e)
-}
+use refusal::Refusal;
 
-// A byte of the word of lane q from four symbols, of which the first is symbol l.
-fn lane_byte(a: u8, b: u8, c: u8, d: u8, l: u8, q: u8) -> u8
-    requires { (l < 4) × (q < 4) }
-    ensures { result ≡ gathered l q a b c d }
+// A byte of the word of lane Q from four symbols that are turned, of which the first is symbol L.
+fn lane_byte<const L: u8, const Q: u8>(a: u8, b: u8, c: u8, d: u8) -> u8
+    requires { (L < 4) × (Q < 4) }
+    ensures { result ≡ gathered_turned L Q a b c d }
 {
-    let w = lane_dibit(a, l, q, 0);
-    let x = lane_dibit(b, (l + 1) % 4, q, 1);
-    let y = lane_dibit(c, (l + 2) % 4, q, 2);
-    let z = lane_dibit(d, (l + 3) % 4, q, 3);
+    let w = symbols::put_dibit(a, symbols::tributary(L, Q), 0);
+    let x = symbols::put_dibit(b, symbols::tributary(L + 1, Q), 1);
+    let y = symbols::put_dibit(c, symbols::tributary(L + 2, Q), 2);
+    let z = symbols::put_dibit(d, symbols::tributary(L + 3, Q), 3);
     w + x + y + z
 }
 
 // The four words of a row, sixteen bytes each. Its symbols stand in four lists in s, 256 each, one symbol in each in turn, from place at on; those of the first
-// are symbol l, of four. Compiled for a literal l.
-fn row_words(s: &[u8; 1024], at: usize, l: u8, out: &mut [u8])
-    requires { (at + 16 ≤ 256) × (l < 4) × (length out.old ≡ 64) }
-    ensures { out.new ≡ tabulate (length out.old) (λ i. gathered_from s.now l (i / 16) (at + i % 16)) }
+// are symbol L, of four.
+fn row_words<const L: u8>(s: &[u8; 1024], at: usize, out: &mut [u8])
+    requires { (L < 4) × (at + 16 ≤ 256) × (length out.old ≡ 64) }
+    ensures { out.new ≡ tabulate 64 (λ i. gathered_from s.now L (i / 16) (at + i % 16)) }
 {
-    let mut i: usize = 0;
-    while i < 16 {
+    for i in 0..16 {
         let m = at + i;
-        let a = s[m];
-        let b = s[m + 512];
-        let c = s[m + 256];
-        let d = s[m + 768];
-        out[i] = lane_byte(a, b, c, d, l, 0);
-        out[16 + i] = lane_byte(a, b, c, d, l, 1);
-        out[32 + i] = lane_byte(a, b, c, d, l, 2);
-        out[48 + i] = lane_byte(a, b, c, d, l, 3);
-        i += 1;
+        let a = symbols::turned(s[m], L);
+        let b = symbols::turned(s[m + 512], L + 1);
+        let c = symbols::turned(s[m + 256], L + 2);
+        let d = symbols::turned(s[m + 768], L + 3);
+        out[i] = lane_byte::<L, 0>(a, b, c, d);
+        out[16 + i] = lane_byte::<L, 1>(a, b, c, d);
+        out[32 + i] = lane_byte::<L, 2>(a, b, c, d);
+        out[48 + i] = lane_byte::<L, 3>(a, b, c, d);
     }
 }
 
-// The words of the four rows from row 4 q on: what a row's first symbol is goes round by four.
-fn four_rows(s: &[u8; 1024], q: usize, out: &mut [u8])
-    requires { (q < 4) × (length out.old ≡ 256) }
-    ensures { out.new ≡ tabulate (length out.old) (λ i. rows_at s.now (256 * q + i)) }
-{
-    let at = 64 * q;
-    row_words(s, at, 3, &mut out[0..64]);
-    row_words(s, at + 16, 2, &mut out[64..128]);
-    row_words(s, at + 32, 1, &mut out[128..192]);
-    row_words(s, at + 48, 0, &mut out[192..256]);
-}
-
-// The words of sixteen rows.
+// The words of sixteen rows: what a row's first symbol is goes round by four.
 fn rows(s: &[u8; 1024], out: &mut [u8])
     requires { length out.old ≡ 1024 }
     ensures { out.new ≡ tabulate 1024 (rows_at s.now) }
 {
-    let mut q: usize = 0;
-    while q < 4 {
+    for q in 0..4 {
+        let at = 64 * q;
         let o = 256 * q;
-        let end = o + 256;
-        four_rows(s, q, &mut out[o..end]);
-        q += 1;
+        row_words::<3>(s, at, &mut out[o..o + 64]);
+        row_words::<2>(s, at + 16, &mut out[o + 64..o + 128]);
+        row_words::<1>(s, at + 32, &mut out[o + 128..o + 192]);
+        row_words::<0>(s, at + 48, &mut out[o + 192..o + 256]);
     }
 }
 
@@ -88,120 +64,86 @@ fn pairs(s: &[u8], out: &mut [u16])
     ensures { out.new
         ≡ tabulate (length out.old) (λ i. get_or s.now (2 * i) 0 + get_or s.now (2 * i + 1) 0 * 256) }
 {
-    let n = out.len();
-    let mut i: usize = 0;
-    while i < n {
-        out[i] = symbols::wide(s[2 * i]) + symbols::wide(s[2 * i + 1]) * 256;
-        i += 1;
+    for (i, pair) in out.iter_mut().enumerate() {
+        *pair = u16::from_le_bytes([s[2 * i], s[2 * i + 1]]);
     }
 }
 
-// The first byte of each two.
-fn evens(w: &[u16], out: &mut [u8])
-    requires { length w.now ≡ length out.old }
-    ensures { out.new ≡ tabulate (length out.old) (λ i. get_or w.now i 0 % 256) }
+// Byte K of each number.
+fn byte_of_each<const K: usize>(numbers: &[u16], out: &mut [u8])
+    requires { (K < 2) × (length numbers.now ≡ length out.old) }
+    ensures { out.new ≡ tabulate (length out.old) (λ i. get_or numbers.now i 0 / 256 ^ K % 256) }
 {
-    let n = out.len();
-    let mut i: usize = 0;
-    while i < n {
-        out[i] = (w[i] % 256) as u8;
-        i += 1;
-    }
-}
-
-// The second byte of each two.
-fn odds(w: &[u16], out: &mut [u8])
-    requires { length w.now ≡ length out.old }
-    ensures { out.new ≡ tabulate (length out.old) (λ i. get_or w.now i 0 / 256) }
-{
-    let n = out.len();
-    let mut i: usize = 0;
-    while i < n {
-        out[i] = (w[i] / 256) as u8;
-        i += 1;
+    for (i, byte) in out.iter_mut().enumerate() {
+        *byte = numbers[i].to_le_bytes()[K];
     }
 }
 
 // Bytes in two lists, one behind the other, one byte to each in turn, by way of pairs: bytes at a stride the compiler would move one by one.
-fn part_bytes(s: &[u8], w: &mut [u16], out: &mut [u8])
-    requires { (length s.now ≡ 2 * length w.old) × (length out.old ≡ 2 * length w.old) }
+fn part_bytes(s: &[u8], room: &mut [u16], out: &mut [u8])
+    requires { (length s.now ≡ 2 * length room.old) × (length out.old ≡ 2 * length room.old) }
     ensures { out.new ≡ tabulate (length out.old) (parted_at (length out.old) s.now) }
 {
-    let n = w.len();
+    let n = room.len();
     let end = out.len();
-    pairs(s, w);
-    evens(w, &mut out[0..n]);
-    odds(w, &mut out[n..end]);
+    pairs(s, room);
+    byte_of_each::<0>(room, &mut out[0..n]);
+    byte_of_each::<1>(room, &mut out[n..end]);
 }
 
-// Each half of such bytes in two lists again.
-fn part_halves(s: &[u8], w: &mut [u16], out: &mut [u8])
-    requires { (length s.now ≡ 1024) × (length w.old ≡ 256) × (length out.old ≡ 1024) }
-    ensures { out.new ≡ tabulate 1024 (halves_at s.now) }
-{
-    part_bytes(&s[0..512], w, &mut out[0..512]);
-    part_bytes(&s[512..1024], w, &mut out[512..1024]);
+// Room to work in: made for each sixteen rows, it would be zeroed each time.
+#[derive(Drop)]
+struct Room {
+    pairs: [u16; 512],
+    two: [u8; 1024],
+    four: [u8; 1024],
 }
 
-// The bytes of the words of sixteen rows of symbols. The other lists lent are room to work in: made here, they would be zeroed each time.
-fn sixteen_rows(
-    s: &[u8],
-    w: &mut [u16; 512],
-    v: &mut [u16; 256],
-    two: &mut [u8; 1024],
-    four: &mut [u8; 1024],
-    out: &mut [u8],
-)
-    requires { (length s.now ≡ 1024) × (length out.old ≡ 1024) }
-    ensures { out.new ≡ tabulate (length out.old) (gathered_at s.now) }
-{
-    part_bytes(s, w, two);
-    part_halves(two, v, four);
-    rows(four, out);
+impl Room {
+    fn cleared() -> Room {
+        Room {
+            pairs: [0; 512],
+            two: [0; 1024],
+            four: [0; 1024],
+        }
+    }
+
+    // The bytes of the words of sixteen rows of symbols, which are parted in two lists, and each of these in two again.
+    fn sixteen_rows(&mut self, s: &[u8; 1024], out: &mut [u8])
+        requires { length out.old ≡ 1024 }
+        ensures { out.new ≡ tabulate 1024 (gathered_at s.now) }
+    {
+        let Room { pairs, two, four } = self;
+        part_bytes(s, pairs, two);
+        part_bytes(&two[0..512], &mut pairs[0..256], &mut four[0..512]);
+        part_bytes(&two[512..1024], &mut pairs[0..256], &mut four[512..1024]);
+        rows(four, out);
+    }
 }
 
 // The bytes of a frame's words, with their bits at their places.
-fn gather_bytes(frame: &[u8], out: &mut [u8])
-    requires { (length frame.now ≡ 6144) × (length out.old ≡ 6144) }
+fn gather_bytes(frame: &[u8; 6144], out: &mut [u8; 6144])
     ensures { out.new ≡ tabulate 6144 (gathered_at frame.now) }
 {
-    let mut w = [0u16; 512];
-    let mut v = [0u16; 256];
-    let mut two = [0u8; 1024];
-    let mut four = [0u8; 1024];
-    let mut g: usize = 0;
-    while g < 6 {
+    let (parts, _) = frame.as_chunks::<1024>();
+    let mut room = Room::cleared();
+    for (g, part) in parts.iter().enumerate() {
         let from = 1024 * g;
-        let end = from + 1024;
-        sixteen_rows(
-            &frame[from..end],
-            &mut w,
-            &mut v,
-            &mut two,
-            &mut four,
-            &mut out[from..end],
-        );
-        g += 1;
+        room.sixteen_rows(part, &mut out[from..from + 1024]);
     }
 }
 
 // The numbers of the bytes of a frame's words, two a word. In a loop of their own: else the compiler would move the bytes one by one.
-fn numbers(b: &[u8; 6144], out: &mut [u64])
-    requires { length out.old ≡ 768 }
+fn numbers(b: &[u8; 6144], out: &mut [u64; 768])
     ensures { out.new ≡ tabulate 768 (λ j. field_at b.now (64 * j) 64) }
 {
-    let mut i: usize = 0;
-    while i < 384 {
-        let at = 16 * i;
-        out[2 * i] = bits::load(b, at);
-        out[2 * i + 1] = bits::load(b, at + 8);
-        i += 1;
+    for (j, number) in out.iter_mut().enumerate() {
+        *number = bits::load(b, 8 * j);
     }
 }
 
-// The 384 words of a frame of the right length.
-fn read_words(frame: &[u8], words: &mut [u64; 768])
-    requires { length frame.now ≡ 6144 }
+// The 384 words of a frame.
+fn read_words(frame: &[u8; 6144], words: &mut [u64; 768])
     ensures { words.new ≡ words_of frame.now }
 {
     let mut b = [0u8; 6144];
@@ -211,14 +153,13 @@ fn read_words(frame: &[u8], words: &mut [u64; 768])
     shuffle::unshuffle_words(&placed, words);
 }
 
-// The 384 words of a frame; its pilots are not looked at. Where its length is wrong the answer is false, and nothing changes. The frame is the caller's own, so
+// The 384 words of a frame; its pilots are not looked at. Where its length is wrong, it is refused, and nothing changes. The frame is the caller's own, so
 // that nothing is copied on the way.
-pub fn words_from_frame(frame: &[u8], words: &mut [u64; 768]) -> bool
-    ensures { ReadsFrame frame.now words.old result words.new }
+pub fn words_from_frame(frame: &[u8], words: &mut [u64; 768]) -> Result<(), Refusal>
+    ensures reads { ReadsFrame frame.now words.old (is_ok result) words.new }
+    ensures refused { IfErr result (λ refusal. refusal ≡ Refusal.Input) }
 {
-    if frame.len() != 6144 {
-        return false;
-    }
+    let frame = frame.as_array().ok_or(Refusal::Input)?;
     read_words(frame, words);
-    true
+    Ok(())
 }

@@ -17,15 +17,15 @@ use Rattle.bits.specs.definitions.Bits.{tabulate, value, number, bit_of}
 use Rattle.bits.specs.definitions.Words.{word_at, row_of, word_bytes}
 use Rattle.bits.proofs.Table.{each, range_rule, and_left, and_right}
 use Rattle.bits.proofs.Tabulate.{get_d_tabulate, tabulate_cong, is_tabulate}
-use Rattle.bits.proofs.Filling.{Filling, filling_start, filling_at, filling_put, filling_done}
+use Rattle.bits.proofs.Filling.{Filling, filling_put}
 use Rattle.bits.proofs.Value.{value_cong, value_lt, bit_lt, bit_number}
 use Rattle.bits.proofs.Words.{row_at_lem}
 use Rattle.shuffle.specs.definitions.Shuffle.{unplace, shuffled}
 use Rattle.symbols.specs.definitions.Mapping.{lane_of, upper, lower}
 use Rattle.pilots.specs.definitions.Table5.{pilots}
 use Rattle.symbols.specs.definitions.Frame.{carried_bit, payload, symbol_at, frame_of}
-use Rattle.symbols.specs.definitions.Dibits.{dibit_in, swapped}
-use Rattle.symbols.specs.private.Numbers.{lane_in, tributary_in, mapped, dibits_at, quarter_at, byte_of_two}
+use Rattle.symbols.specs.definitions.Dibits.{dibit_in, swapped, turned, tributary_in}
+use Rattle.symbols.specs.private.Numbers.{lane_in, mapped, dibits_at, quarter_at, byte_of_two}
 
 -- ---- a symbol's number by its remainder
 
@@ -69,14 +69,18 @@ put_dibit_at x e t v he ht p =
     let b : t % 4 ≡ t = omega arith in
     p ∙ λ k. dibit_in (a k) x * 4 ^ (3 - b k)
 
+pub tributary_lt : (l r : ℕ) → tributary_in l r < 4
+unfolding tributary_in
+tributary_lt l r = omega arith
+
+-- at the tributary of a lane
+pub put_at : (x e l r : ℕ) {t v : ℕ} → e < 4 → t ≡ tributary_in l r → v ≡ dibit_in (e % 4) x * 4 ^ (3 - t % 4) → v ≡ dibit_in e x * 4 ^ (3 - tributary_in l r)
+put_at x e l r {t} he et p = put_dibit_at x e t _ he (omega (arith, tributary_lt l r)) p ∙ ap (λ (n : ℕ). dibit_in e x * 4 ^ (3 - n)) et
+
 -- four dibits at the tributaries of their lanes
 abbrev pub at_tributaries : ℕ → ℕ → ℕ → ℕ → ℕ → ℕ
 at_tributaries l a b c d =
     a * 4 ^ (3 - tributary_in l 0) + b * 4 ^ (3 - tributary_in l 1) + c * 4 ^ (3 - tributary_in l 2) + d * 4 ^ (3 - tributary_in l 3)
-
--- in an odd symbol the two bits of each are swapped
-abbrev pub turned : ℕ → ℕ → ℕ
-turned l v = cond (eqb (l % 2) 1) (swapped v) v
 
 placed : ℕ → ℕ → ℕ
 placed l y = at_tributaries l (y / 64) (y / 16 % 4) (y / 4 % 4) (y % 4)
@@ -112,16 +116,17 @@ symbol_sum l a b c d hl ha hb hc hd =
     )
 
 -- the same from what the code puts at each tributary
-pub symbol_values : (l a b c d w x y z : ℕ) → l < 4 → a < 4 → b < 4 → c < 4 → d < 4
-    → let f = 3 * (2 * l + l / 2 % 2) in
-    w ≡ a * 4 ^ (3 - f % 4) → x ≡ b * 4 ^ (3 - (1 + f) % 4) → y ≡ c * 4 ^ (3 - (2 + f) % 4) → z ≡ d * 4 ^ (3 - (3 + f) % 4)
-    → (turned l (w + x + y + z) ≡ mapped l (a * 64 + b * 16 + c * 4 + d)) × (w + x + y + z < 256)
-unfolding tributary_in
-symbol_values l a b c d w x y z hl ha hb hc hd p q r s =
-    let n : 3 * (2 * l + l / 2 % 2) ≡ 0 + 3 * (2 * l + l / 2 % 2) = omega arith in
-    let e : w + x + y + z ≡ at_tributaries l a b c d = λ k. (p ∙ ap (λ (m : ℕ). a * 4 ^ (3 - m % 4)) n) k + q k + r k + s k in
-    let h = symbol_sum l a b c d hl ha hb hc hd in
-    (ap (turned l) e ∙ h.0, subst (λ (v : ℕ). v < 256) (sym e) h.1)
+pub symbol_values : (l e a b c d : ℕ) {s t u v w x y z : ℕ} → l < 4 → e < 4
+    → s ≡ tributary_in l 0 → t ≡ tributary_in l 1 → u ≡ tributary_in l 2 → v ≡ tributary_in l 3
+    → w ≡ dibit_in (e % 4) a * 4 ^ (3 - s % 4) → x ≡ dibit_in (e % 4) b * 4 ^ (3 - t % 4)
+    → y ≡ dibit_in (e % 4) c * 4 ^ (3 - u % 4) → z ≡ dibit_in (e % 4) d * 4 ^ (3 - v % 4)
+    → (turned l (w + x + y + z) ≡ mapped l (dibit_in e a * 64 + dibit_in e b * 16 + dibit_in e c * 4 + dibit_in e d)) × (w + x + y + z < 256)
+symbol_values l e a b c d {w = w} {x} {y} {z} hl he es et eu ev ew ex ey ez =
+    let p : w + x + y + z ≡ at_tributaries l (dibit_in e a) (dibit_in e b) (dibit_in e c) (dibit_in e d) =
+    λ k. put_at a e l 0 he es ew k + put_at b e l 1 he et ex k + put_at c e l 2 he eu ey k + put_at d e l 3 he ev ez k in
+    let h = symbol_sum l (dibit_in e a) (dibit_in e b) (dibit_in e c) (dibit_in e d) hl (mod-lt _ (lit< tt)) (mod-lt _ (lit< tt)) (mod-lt _ (lit< tt))
+    (mod-lt _ (lit< tt)) in
+    (ap (turned l) p ∙ h.0, subst (λ (n : ℕ). n < 256) (sym p) h.1)
 
 -- ---- a symbol by its words' bits
 

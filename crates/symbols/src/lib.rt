@@ -8,14 +8,21 @@ ghost use Rattle.std.specs.Prelude.{◌≡◌, cond, ◌<◌, ◌≤◌, ◌+◌
 ghost use Rattle.bits.specs.definitions.Bits.{tabulate};
 ghost use Rattle.pilots.specs.definitions.Table5.{pilots};
 ghost use Rattle.symbols.specs.definitions.Frame.{frame_of};
-ghost use Rattle.symbols.specs.definitions.Dibits.{dibit_in, swapped};
+ghost use Rattle.symbols.specs.definitions.Dibits.{dibit_in, swapped, turned, tributary_in};
 ghost use Rattle.symbols.specs.private.Numbers.{mapped, dibits_at, quarter_at, byte_of_two};
 
 // Each dibit of a byte with its two bits swapped.
-pub fn swapped(x: u8) -> u8
+fn swapped(x: u8) -> u8
     ensures { result ≡ swapped x }
 {
     ((x >> 1) & 0x55) | ((x & 0x55) << 1)
+}
+
+// Symbol l's byte as its lanes have its dibits, and back: in an odd symbol the two bits of each are swapped.
+pub fn turned(x: u8, l: u8) -> u8
+    ensures { result ≡ turned l x }
+{
+    if l % 2 == 1 { swapped(x) } else { x }
 }
 
 // Dibit e of a byte, put at dibit t; both count by their remainders. Compiled for literal e and t.
@@ -27,18 +34,23 @@ pub fn put_dibit(x: u8, e: u8, t: u8) -> u8
     ((x >> from) % 4) << to
 }
 
+// The tributary that has lane r of the four that symbol l carries; both count by their remainders.
+pub fn tributary(l: u8, r: u8) -> u8
+    ensures { result ≡ tributary_in l r }
+{
+    (r % 4 + 3 * (2 * (l % 4) + l / 2 % 2)) % 4
+}
+
 // Symbol l from dibit E of a byte of each of its four lanes.
 fn symbol<const E: u8>(a: u8, b: u8, c: u8, d: u8, l: u8) -> u8
     requires { (E < 4) × (l < 4) }
     ensures { result ≡ mapped l (dibit_in E a * 64 + dibit_in E b * 16 + dibit_in E c * 4 + dibit_in E d) }
 {
-    let f = 3 * (2 * l + l / 2 % 2);
-    let w = put_dibit(a, E, f % 4);
-    let x = put_dibit(b, E, (1 + f) % 4);
-    let y = put_dibit(c, E, (2 + f) % 4);
-    let z = put_dibit(d, E, (3 + f) % 4);
-    let v = w + x + y + z;
-    if l % 2 == 1 { swapped(v) } else { v }
+    let w = put_dibit(a, E, tributary(l, 0));
+    let x = put_dibit(b, E, tributary(l, 1));
+    let y = put_dibit(c, E, tributary(l, 2));
+    let z = put_dibit(d, E, tributary(l, 3));
+    turned(w + x + y + z, l)
 }
 
 // Every fourth symbol of row R of the four from row 4 q on, from symbol E on: what number the first has goes round by four.

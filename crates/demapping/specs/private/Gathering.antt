@@ -1,12 +1,17 @@
 -- What the way back's own functions promise one another about symbols and the bytes of words. No promise to a caller rests on a definition here.
 -- Assumes nothing.
-use Rattle.std.specs.Prelude.{cond, List, ℕ, ◌+◌, ◌*◌, ◌-◌, ◌/◌, ◌%◌, ltb, get_or, drop}
+use Rattle.std.specs.Prelude.{cond, List, ℕ, ◌+◌, ◌*◌, ◌-◌, ◌/◌, ◌%◌, ltb, get_or}
 use Rattle.bits.specs.definitions.Bits.{bit_of}
-use Rattle.symbols.specs.private.Numbers.{tributary_in}
+use Rattle.symbols.specs.definitions.Dibits.{dibit_in, tributary_in}
 
 -- the dibit of lane r, of the four, in symbol l's byte x
 unfoldable pub dibit_of : ℕ → ℕ → ℕ → ℕ
 dibit_of l r x = bit_of 8 x (2 * tributary_in l r + l % 2) * 2 + bit_of 8 x (2 * tributary_in l r + (l + 1) % 2)
+
+-- a byte of the word of lane r from four symbols that are turned, of which the first is number l
+unfoldable pub gathered_turned : ℕ → ℕ → ℕ → ℕ → ℕ → ℕ → ℕ
+gathered_turned l r a b c d =
+    dibit_in (tributary_in l r) a * 64 + dibit_in (tributary_in (l + 1) r) b * 16 + dibit_in (tributary_in (l + 2) r) c * 4 + dibit_in (tributary_in (l + 3) r) d
 
 -- a byte of the word of lane r: its dibits in four symbols, of which the first is number l
 unfoldable pub gathered : ℕ → ℕ → ℕ → ℕ → ℕ → ℕ → ℕ
@@ -15,10 +20,6 @@ gathered l r a b c d = dibit_of l r a * 64 + dibit_of (l + 1) r b * 16 + dibit_o
 -- byte i of n bytes in two lists, one behind the other, one byte to each in turn
 unfoldable pub parted_at : ℕ → List ℕ → ℕ → ℕ
 parted_at n s i = cond (ltb i (n / 2)) (get_or s (2 * i) 0) (get_or s (2 * (i - n / 2) + 1) 0)
-
--- byte i of two halves of 512 bytes, each of which is in two lists so
-unfoldable pub halves_at : List ℕ → ℕ → ℕ
-halves_at s i = parted_at 512 (drop (512 * (i / 512)) s) (i % 512)
 
 -- such a byte from four lists of 256 symbols, one symbol in each in turn, at place m of each. Symbols parted twice stand so: of each four the first, the
 -- third, the second and the fourth

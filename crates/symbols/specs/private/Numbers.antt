@@ -8,10 +8,6 @@ use Rattle.symbols.specs.definitions.Dibits.{dibit_in}
 unfoldable pub lane_in : ℕ → ℕ → ℕ
 lane_in l t = (2 * l + l / 2 % 2 + t) % 4
 
--- the tributary that has lane r of the four
-unfoldable pub tributary_in : ℕ → ℕ → ℕ
-tributary_in l r = (r + 3 * (2 * l + l / 2 % 2)) % 4
-
 -- symbol l's byte, from the byte y of four dibits in the lanes' order
 unfoldable pub mapped : ℕ → ℕ → ℕ
 mapped l y = number 8 (λ i. bit_of 8 y (2 * lane_in l (i / 2) + (i + l) % 2))
