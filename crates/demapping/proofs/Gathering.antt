@@ -5,13 +5,13 @@ use mathlib.Core.Path.{◌≡◌, refl, sym, ap, ap₂, ◌∙◌, subst}
 use mathlib.Core.Bool.{Bool, cond}
 use mathlib.Core.List.{List, []}
 use Prim.Native.Nat.{ℕ, zero, suc, ◌+◌, ◌-◌, ◌*◌, ◌/◌, ◌%◌, ◌^◌, ◌<◌, ◌≤◌, zero-le}
-use native.Mathlib.Nat.{add-zero, mul-suc}
+use native.Mathlib.Nat.{add-zero}
 use native.Mathlib.Omega.{arith}
 use lib.Dec.{T, eqb, eqb→eq}
 use lib.ListN.{length, get_or, set, take, drop}
 use Rattle.std.specs.Int.{w16, to_le_bytes}
 use Rattle.std.specs.Simd.{first_chunks}
-use lib.Seq.{get_or-drop, get_or-take, drop-drop}
+use lib.Seq.{get_or-drop, get_or-take}
 use borrow.Author.Tests.{eq-eqb, lt-ltb, le-ltb}
 use Rattle.bits.specs.definitions.Bits.{value, number, bit_of, bit_at, field_at, tabulate, AllBytes}
 use Rattle.bits.specs.definitions.Words.{word_of, word_at}
@@ -27,7 +27,7 @@ use Rattle.shuffle.proofs.Places.{place_lt}
 use Rattle.symbols.specs.definitions.Mapping.{payload_at, symbol_of, tributary_of, bit_in}
 use Rattle.symbols.specs.definitions.Frame.{placed_bit, arrived, words_of}
 use Rattle.symbols.specs.definitions.Dibits.{dibit_in, swapped, turned, tributary_in}
-use Rattle.symbols.proofs.Symbols.{fours, tributary_lt, counted_mod, counted_row, put_part, part_put}
+use Rattle.symbols.proofs.Symbols.{fours, tributary_lt, counted_mod, counted_row, put_part, part_put, in_chunk}
 use Rattle.demapping.specs.definitions.Frame.{ReadsFrame}
 use Rattle.demapping.specs.private.Gathering.{gathered_turned, dibit_of, gathered, parted_at, gathered_from, rows_at, gathered_at}
 
@@ -318,14 +318,6 @@ module _ (s two four : List ℕ) (m : ℕ) (long : m ≡ 1024) (e : two ≡ tabu
       (four_at 0 1 j (j + 256) (o + 2) b (omega arith) (omega arith) (omega arith) (omega arith) x)
       (four_at 1 1 j (j + 768) (o + 3) b (omega arith) (omega arith) (omega arith) (omega arith) x))
 
--- chunk g of a list
-chunk_at : (n k : ℕ) (s : List ℕ) (g : ℕ) → g < k → get_or (first_chunks n k s) g [] ≡ take n (drop (n * g) s)
-chunk_at n zero s g h = absurd (omega arith)
-chunk_at n (suc k) s zero h = let e : n * 0 ≡ 0 = omega arith in rw e
-chunk_at n (suc k) s (suc g) h =
-    let e : n + n * g ≡ n * suc g = rw mul-suc (omega arith) in
-    chunk_at n k (drop n s) g (omega arith) ∙ ap (take n) (drop-drop (n * g) n s ∙ ap (λ (m : ℕ). drop m s) e)
-
 -- sixteen rows of a frame are gathered, and put
 pub gather_step : (f : List ℕ) (g k : ℕ) {out₀ out part : List ℕ} {parts : List (List ℕ)} → g < k → k ≤ 6 → parts ≡ first_chunks 1024 k f
     → Filling (gathered_at f) 6144 out₀ out (1024 * g) → part ≡ tabulate 1024 (gathered_at (get_or parts g []))
@@ -359,9 +351,7 @@ gather_step f g n {out₀} {parts = parts} hg hn ef F p =
     place a b c d e k = omega arith
 
     at : (j k : ℕ) → j < 1024 → from + j ≡ k → get_or s j 0 ≡ get_or f k 0
-    at j k l e =
-        ap (λ (c : List (List ℕ)). get_or (get_or c g []) j 0) ef ∙ ap (λ (c : List ℕ). get_or c j 0) (chunk_at 1024 n f g hg)
-        ∙ get_or-take 1024 (drop from f) j 0 l ∙ get_or-drop from f j 0 ∙ ap (λ (n : ℕ). get_or f n 0) e
+    at j k l e = in_chunk 1024 n f g j hg l ef ∙ ap (λ (n : ℕ). get_or f n 0) e
 
     symbols : (l o u : ℕ) {q r : ℕ} → q ≡ r → from + o ≡ u → o + 3 < 1024
         → gathered l q (get_or s o 0) (get_or s (o + 1) 0) (get_or s (o + 2) 0) (get_or s (o + 3) 0)

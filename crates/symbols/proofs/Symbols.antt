@@ -9,8 +9,9 @@ use native.Mathlib.Decide.{ℕ_discrete, dec_lt}
 use native.Mathlib.Omega.{arith}
 use lib.Dec.{T, eqb, ltb, eqb→eq, ltb→lt, lit<}
 use lib.ListN.{length, get_or, set, take, drop, length-set, length-take, length-drop}
-use lib.Seq.{get_or-set_same, get_or-set_other}
+use lib.Seq.{get_or-set_same, get_or-set_other, get_or-take, get_or-drop, drop-drop}
 use Rattle.std.specs.Int.{w16, to_le_bytes}
+use Rattle.std.specs.Simd.{first_chunks}
 use lib.Pow.{pow-add, shl_exact, field, mod-mod-pow}
 use borrow.Author.Tests.{eq-eqb, ne_eqb, lt-ltb, le-ltb}
 use Rattle.bits.specs.definitions.Bits.{tabulate, value, number, bit_of}
@@ -339,18 +340,58 @@ frame_is s b f e q =
 abbrev pub put_part : ℕ → ℕ → List ℕ → List ℕ → List ℕ
 put_part o end out part = take o out ++ (part ++ drop (end - o) (drop o out))
 
--- symbol i of row r, of four, of a quarter, by any number that has the remainder of its own
-pub row_at : (b : List ℕ) (e q r l at i : ℕ) → r < 4 → l ≡ (e + 3 - r) % 4 → at ≡ 256 * q + 64 * r → i < 16
-    → mapped l (dibits_at b e (at + i)) ≡ quarter_at b e (64 * q + 16 * r + i)
+-- symbol i of row r of four, by any number that is its own
+pub row_at : (b : List ℕ) (e r l at i : ℕ) → r < 4 → l ≡ (e + 3 - r) % 4 → at ≡ 64 * r → i < 16
+    → mapped l (dibits_at b e (at + i)) ≡ quarter_at b e (16 * r + i)
 unfolding quarter_at
-row_at b e q r l at i hr el ea h =
-    let j = 64 * q + 16 * r + i in
-    let d : j / 16 ≡ 4 * q + r = omega arith in
+row_at b e r l at i hr el ea h =
+    let j = 16 * r + i in
+    let d : j / 16 ≡ r = omega arith in
     let m : at + i ≡ 64 * (j / 16) + j % 16 = omega arith in
     λ x. mapped (number (j / 16) d x) (dibits_at b e (m x))
   where
-    number : (a : ℕ) → a ≡ 4 * q + r → l ≡ (3 * a + 3 + e) % 4
-    number a h = el ∙ fours (e + 3 - r) (3 * a + 3 + e) (3 * q + r) (omega arith)
+    number : (a : ℕ) → a ≡ r → l ≡ (3 * a + 3 + e) % 4
+    number a h = el ∙ fours (e + 3 - r) (3 * a + 3 + e) r (omega arith)
+
+-- chunk g of a list
+pub chunk_at : (n k : ℕ) (s : List ℕ) (g : ℕ) → g < k → get_or (first_chunks n k s) g [] ≡ take n (drop (n * g) s)
+chunk_at n zero s g h = absurd (omega arith)
+chunk_at n (suc k) s zero h = let e : n * 0 ≡ 0 = omega arith in rw e
+chunk_at n (suc k) s (suc g) h =
+    let e : n + n * g ≡ n * suc g = rw mul-suc (omega arith) in
+    chunk_at n k (drop n s) g (omega arith) ∙ ap (take n) (drop-drop (n * g) n s ∙ ap (λ (m : ℕ). drop m s) e)
+
+-- an element of it
+pub in_chunk : (n k : ℕ) {parts : List (List ℕ)} (s : List ℕ) (g i : ℕ) → g < k → i < n → parts ≡ first_chunks n k s
+    → get_or (get_or parts g []) i 0 ≡ get_or s (n * g + i) 0
+in_chunk n k s g i hg hi e =
+    ap (λ (c : List (List ℕ)). get_or (get_or c g []) i 0) e ∙ ap (λ (c : List ℕ). get_or c i 0) (chunk_at n k s g hg)
+    ∙ get_or-take n (drop (n * g) s) i 0 hi ∙ get_or-drop (n * g) s i 0
+
+-- the symbols of four rows are those of the frame, where each row's number goes round by four
+four_rows : (b : List ℕ) (e q k : ℕ) {parts : List (List ℕ)} (j : ℕ) → q < k → j < 64 → parts ≡ first_chunks 256 k b
+    → quarter_at (get_or parts q []) e j ≡ quarter_at b e (64 * q + j)
+unfolding quarter_at dibits_at
+four_rows b e q k {parts} j hq hj ep =
+    let i = 64 * q + j in
+    let d : i / 16 ≡ 4 * q + j / 16 = omega arith in
+    let m : j % 16 ≡ i % 16 = omega arith in
+    let o = 64 * (j / 16) + j % 16 in
+    let u = 64 * (i / 16) + i % 16 in
+    let inside : o + 48 < 256 = omega arith in
+    let place : 256 * q + o ≡ u = placed_row (j / 16) (i / 16) (j % 16) (i % 16) d m in
+    λ x. mapped (number (j / 16) (i / 16) d x)
+    (dibit_in e (at o u (omega arith) place x) * 64 + dibit_in e (at (o + 16) (u + 16) (omega arith) (omega arith) x) * 16
+    + dibit_in e (at (o + 32) (u + 32) (omega arith) (omega arith) x) * 4 + dibit_in e (at (o + 48) (u + 48) inside (omega arith) x))
+  where
+    number : (a c : ℕ) → c ≡ 4 * q + a → (3 * a + 3 + e) % 4 ≡ (3 * c + 3 + e) % 4
+    number a c h = fours (3 * a + 3 + e) (3 * c + 3 + e) (3 * q) (omega arith)
+
+    placed_row : (a c m n : ℕ) → c ≡ 4 * q + a → m ≡ n → 256 * q + (64 * a + m) ≡ 64 * c + n
+    placed_row a c m n h g = omega arith
+
+    at : (o u : ℕ) → o < 256 → 256 * q + o ≡ u → get_or (get_or parts q []) o 0 ≡ get_or b u 0
+    at o u h g = in_chunk 256 k b q o hq h ep ∙ ap (λ (n : ℕ). get_or b n 0) g
 
 -- a part of m numbers is put where they belong
 pub part_put : (f g : ℕ → ℕ) (m o end : ℕ) {n : ℕ} {out₀ out part : List ℕ} → part ≡ tabulate m g → end ≡ o + m → end ≤ n
@@ -361,24 +402,29 @@ part_put f g m o end {out = out} {part} p ee le agree F =
     size : length (take (end - o) (drop o out)) ≡ m
     size = simp (length-take, length-drop) (omega (arith, F.long))
 
--- the four rows are put, one after another
-pub quarter_step : (b : List ℕ) (e q : ℕ) {out₀ out a₀ a₁ a₂ a₃ : List ℕ} → q < 24
+-- four rows are put, one after another
+pub quarter_step : (b : List ℕ) (e q k : ℕ) {out₀ out a₀ a₁ a₂ a₃ : List ℕ} {parts : List (List ℕ)} → q < k → k ≤ 24 → parts ≡ first_chunks 256 k b
     → let o = 64 * q in
+    let rows = get_or parts q [] in
     Filling (quarter_at b e) 1536 out₀ out o
-    → a₀ ≡ tabulate 16 (λ i. quarter_at b e (o + 16 * 0 + i)) → a₁ ≡ tabulate 16 (λ i. quarter_at b e (o + 16 * 1 + i))
-    → a₂ ≡ tabulate 16 (λ i. quarter_at b e (o + 16 * 2 + i)) → a₃ ≡ tabulate 16 (λ i. quarter_at b e (o + 16 * 3 + i))
+    → a₀ ≡ tabulate 16 (λ i. quarter_at rows e (16 * 0 + i)) → a₁ ≡ tabulate 16 (λ i. quarter_at rows e (16 * 1 + i))
+    → a₂ ≡ tabulate 16 (λ i. quarter_at rows e (16 * 2 + i)) → a₃ ≡ tabulate 16 (λ i. quarter_at rows e (16 * 3 + i))
     → Filling (quarter_at b e) 1536 out₀
     (put_part (o + 48) (o + 64) (put_part (o + 32) (o + 48) (put_part (o + 16) (o + 32) (put_part o (o + 16) out a₀) a₁) a₂) a₃) (64 * (q + 1))
-quarter_step b e q {out₀} h F p₀ p₁ p₂ p₃ =
+quarter_step b e q k {out₀} {parts = parts} hq hk ep F p₀ p₁ p₂ p₃ =
     let o = 64 * q in
     let next : o + 64 ≡ 64 * (q + 1) = omega arith in
     subst (Filling (quarter_at b e) 1536 out₀ _) next
-    (row 3 (o + 48) (o + 64) refl (omega arith) (omega arith) p₃ (row 2 (o + 32) (o + 48) refl (omega arith) (omega arith) p₂
-    (row 1 (o + 16) (o + 32) refl (omega arith) (omega arith) p₁ (row 0 o (o + 16) (omega arith) refl (omega arith) p₀ F))))
+    (row 3 (o + 48) (o + 64) (lit< tt) refl (omega arith) p₃ (row 2 (o + 32) (o + 48) (lit< tt) refl (omega arith) p₂
+    (row 1 (o + 16) (o + 32) (lit< tt) refl (omega arith) p₁ (row 0 o (o + 16) (lit< tt) (omega arith) refl p₀ F))))
   where
-    row : (r o end : ℕ) {out part : List ℕ} → o ≡ 64 * q + 16 * r → end ≡ o + 16 → end ≤ 1536 → part ≡ tabulate 16 (λ i. quarter_at b e (64 * q + 16 * r + i))
+    row : (r o end : ℕ) {out part : List ℕ} → r < 4 → o ≡ 64 * q + 16 * r → end ≡ o + 16
+        → part ≡ tabulate 16 (λ i. quarter_at (get_or parts q []) e (16 * r + i))
         → Filling (quarter_at b e) 1536 out₀ out o → Filling (quarter_at b e) 1536 out₀ (put_part o end out part) end
-    row r o end eo ee le p = part_put (quarter_at b e) _ 16 o end p ee le (λ k h. ap (λ (n : ℕ). quarter_at b e (n + k)) (sym eo))
+    row r o end hr eo ee p =
+        part_put (quarter_at b e) _ 16 o end p ee (omega arith) (λ i h.
+        let n : 64 * q + (16 * r + i) ≡ o + i = omega arith in
+        four_rows b e q k (16 * r + i) hq (omega arith) ep ∙ ap (quarter_at b e) n)
 
 -- two bytes put side by side
 two_put : (f : ℕ → ℕ) (o end : ℕ) {n : ℕ} {out₀ out part : List ℕ} {a b : ℕ} → part ≡ a ∷ b ∷ [] → end ≡ o + 2 → end ≤ n → a ≡ f o → b ≡ f (o + 1)
@@ -388,15 +434,18 @@ two_put f o end p ee le ea eb =
     part_put f (λ k. f (o + k)) 2 o end (p ∙ λ k. (ea ∙ ap f (sym (add-zero o))) k ∷ eb k ∷ []) ee le (λ k h. refl)
 
 -- the bytes of two numbers, two and two
-pub two_bytes_step : (x y : List ℕ) {out₀ out : List ℕ} (i : ℕ) {v w : List ℕ} → i < 1536 → v ≡ to_le_bytes w16 (get_or x i 0) → w ≡ to_le_bytes w16 (get_or y i 0)
+pub two_bytes_step : (x y : List ℕ) {out₀ out : List ℕ} (i : ℕ) {v w : List ℕ} → i < 1536
+    → v ≡ to_le_bytes w16 (get_or x i 0) → w ≡ to_le_bytes w16 (get_or y i 0)
     → Filling (byte_of_two x y) 6144 out₀ out (4 * i)
     → Filling (byte_of_two x y) 6144 out₀ (put_part (4 * i + 2) (4 * i + 4) (put_part (4 * i) (4 * i + 2) out v) w) (4 * (i + 1))
 unfolding byte_of_two
 two_bytes_step x y {out₀} {out} i {v} {w} h ev ew F =
     let z : 4 * i + 4 ≡ 4 * (i + 1) = omega arith in
     subst (Filling f 6144 out₀ _) z
-    (two_put f (4 * i + 2) (4 * i + 4) ew (omega arith) (omega arith) (low _ ∙ lower 0 (4 * i + 2) (omega arith) (omega arith)) (lower 1 (4 * i + 2 + 1) (omega arith) (omega arith))
-    (two_put f (4 * i) (4 * i + 2) ev refl (omega arith) (low _ ∙ upper 0 (4 * i) (omega arith) (omega arith)) (upper 1 (4 * i + 1) (omega arith) (omega arith)) F))
+    (two_put f (4 * i + 2) (4 * i + 4) ew (omega arith) (omega arith)
+    (low _ ∙ lower 0 (4 * i + 2) (omega arith) (omega arith)) (lower 1 (4 * i + 2 + 1) (omega arith) (omega arith))
+    (two_put f (4 * i) (4 * i + 2) ev refl (omega arith)
+    (low _ ∙ upper 0 (4 * i) (omega arith) (omega arith)) (upper 1 (4 * i + 1) (omega arith) (omega arith)) F))
   where
     f : ℕ → ℕ
     f = byte_of_two x y

@@ -53,17 +53,17 @@ fn symbol<const E: u8>(a: u8, b: u8, c: u8, d: u8, l: u8) -> u8
     turned(w + x + y + z, l)
 }
 
-// Every fourth symbol of row R of the four from row 4 q on, from symbol E on: what number the first has goes round by four.
-fn row_quarter<const E: u8, const R: u8>(b: &[u8; 6144], q: usize) -> [u8; 16]
-    requires { (E < 4) × (R < 4) × (q < 24) }
-    ensures { result ≡ tabulate 16 (λ i. quarter_at b.now E (64 * q + 16 * R + i)) }
+// Every fourth symbol of row R of four rows, from symbol E on, from the rows' bytes: what number the first has goes round by four.
+fn row_quarter<const E: u8, const R: u8>(rows: &[u8; 256]) -> [u8; 16]
+    requires { (E < 4) × (R < 4) }
+    ensures { result ≡ tabulate 16 (λ i. quarter_at rows.now E (16 * R + i)) }
 {
     let l = (E + 3 - R) % 4;
-    let at = 256 * q + 64 * usize::from(R);
+    let at = 64 * usize::from(R);
     let mut row = [0; 16];
     for (i, place) in row.iter_mut().enumerate() {
         let m = at + i;
-        *place = symbol::<E>(b[m], b[m + 16], b[m + 32], b[m + 48], l);
+        *place = symbol::<E>(rows[m], rows[m + 16], rows[m + 32], rows[m + 48], l);
     }
     row
 }
@@ -73,12 +73,13 @@ fn quarter<const E: u8>(b: &[u8; 6144], out: &mut [u8; 1536])
     requires { E < 4 }
     ensures { out.new ≡ tabulate 1536 (quarter_at b.now E) }
 {
-    for q in 0..24 {
+    let (fours, _) = b.as_chunks::<256>();
+    for (q, rows) in fours.iter().enumerate() {
         let o = 64 * q;
-        out[o..o + 16].copy_from_slice(&row_quarter::<E, 0>(b, q));
-        out[o + 16..o + 32].copy_from_slice(&row_quarter::<E, 1>(b, q));
-        out[o + 32..o + 48].copy_from_slice(&row_quarter::<E, 2>(b, q));
-        out[o + 48..o + 64].copy_from_slice(&row_quarter::<E, 3>(b, q));
+        out[o..o + 16].copy_from_slice(&row_quarter::<E, 0>(rows));
+        out[o + 16..o + 32].copy_from_slice(&row_quarter::<E, 1>(rows));
+        out[o + 32..o + 48].copy_from_slice(&row_quarter::<E, 2>(rows));
+        out[o + 48..o + 64].copy_from_slice(&row_quarter::<E, 3>(rows));
     }
 }
 

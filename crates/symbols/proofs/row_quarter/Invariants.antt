@@ -5,4 +5,4 @@ use Rattle.symbols.specs.private.Numbers.{quarter_at}
 use Rattle.symbols.proofs.row_quarter.Given as goal
 
 abbrev pub invariant-loop-i : goal.invariant-loop-i
-invariant-loop-i g l = Filling (λ k. quarter_at l.b g.row.E (64 * l.q + 16 * g.row.R + k)) 16 l.initial.place-items l.place-items l.i
+invariant-loop-i g l = Filling (λ k. quarter_at l.rows g.row.E (16 * g.row.R + k)) 16 l.initial.place-items l.place-items l.i
