@@ -33,10 +33,6 @@ use Rattle.demapping.specs.private.Gathering.{gathered_turned, dibit_of, gathere
 
 -- ---- a lane's dibit of a symbol
 
-dibit_lt : (l r x : ℕ) → dibit_of l r x < 4
-unfolding dibit_of
-dibit_lt l r x = omega (arith, bit_lt 8 x (2 * tributary_in l r + l % 2), bit_lt 8 x (2 * tributary_in l r + (l + 1) % 2))
-
 -- a symbol's number counts by its remainder
 tributary_mod : (l r : ℕ) → tributary_in (l % 4) r ≡ tributary_in l r
 unfolding tributary_in

@@ -25,7 +25,7 @@ fn lane_byte<const L: u8, const Q: u8>(a: u8, b: u8, c: u8, d: u8) -> u8
 }
 
 // The four words of a row, sixteen bytes each. Its symbols stand in four lists in s, 256 each, one symbol in each in turn, from place at on; those of the first
-// are symbol L, of four.
+// are symbol L, of four. Each is turned once, for all four lanes. One for each L, so that all shifts are by literals.
 fn row_words<const L: u8>(s: &[u8; 1024], at: usize, out: &mut [u8])
     requires { (L < 4) × (at + 16 ≤ 256) × (length out.old ≡ 64) }
     ensures { out.new ≡ tabulate 64 (λ i. gathered_from s.now L (i / 16) (at + i % 16)) }
