@@ -11,6 +11,7 @@ use native.Mathlib.Omega.{arith}
 use lib.Dec.{eqb, ltb, lit<}
 use lib.ListN.{get_or, length, take, drop, length-take, length-drop, get_or-append}
 use lib.Seq.{get_or-append-add, get_or-take, get_or-drop}
+use borrow.Author.Tests.{ltb-true, ltb-false}
 use lib.Bits.{bit_and, bit_xor, and_le_l, xor_lt, xor_shr, xor_mod}
 use Rattle.bits.specs.definitions.Bits.{tabulate, number, bit_of, bit_at, bytes, AllBytes}
 use Rattle.bits.proofs.Tabulate.{tabulate_cong, tabulate_append, is_tabulate}
@@ -20,8 +21,8 @@ use Rattle.bits.proofs.Fields.{bit_at_lt, bit_at_byte, bytes_bit, bytes_cong, by
 use Rattle.lanes.specs.definitions.Permutation.{Lanes, Places, partner, permuted, lanes_of, lane_bytes}
 use Rattle.lanes.specs.definitions.Interleaver.{Rows, stored, rows_out, row_at, store_bit, store_next}
 use Rattle.lanes.specs.statements.Permutation.{PermutedTwice}
-use Rattle.lanes.specs.private.Blocks.{FillStore, merged_byte, IsMaskRow, block_start, block_byte, out_from, kept_from}
-use Rattle.lanes.proofs.Starts.{frame_start, store_start}
+use Rattle.lanes.specs.private.Blocks.{FillStore, merged_byte, IsMaskRow, lane_of, block_of, block_byte, out_from, kept_from}
+use Rattle.lanes.proofs.Rows.{Apart}
 
 -- ---- the permutation
 
@@ -134,46 +135,51 @@ permuted_byte_lem ex i j mask x X hi hj is =
 
 -- ---- whole blocks
 
--- a frame x with its store s behind it
-module _ (x s : List ℕ) (long : length x ≡ 5280) where
-  -- a bit of one of the frame's blocks, and of one of the store's
-  out_bit : (p b c k : ℕ) → p < 32 → b < 33 → c < 5 → k < 8 → bit_of 8 (block_byte (x ++ s) p b c) k ≡ lanes_of x p (40 * b + (8 * c + k))
+-- lane p of a frame x and of its store s: a byte of one of the frame's blocks, and of one of the store's
+module _ (x s : List ℕ) (long : length x ≡ 5280) (p : ℕ) (hp : p < 32) where
+  pub front : length (take 165 (drop (165 * p) x)) ≡ 165
+  front = simp (length-take, length-drop) (omega arith)
+
+  out_number : AllBytes x → (b c : ℕ) → b < 33 → c < 5 → block_byte (lane_of x s p) b c ≡ number 8 (λ k. lanes_of x p (40 * b + (8 * c + k)))
   unfolding block_byte
-  out_bit p b c k hp hb hc hk =
-      let i : ℕ = 165 * p + 5 * b + c in
-      let l : i < length x = omega arith in
-      let e : 8 * i + k ≡ 1320 * p + (40 * b + (8 * c + k)) = omega arith in
-      rw (frame_start p b hb) (ap (λ (v : ℕ). bit_of 8 v k) (get_or-append x s 0 i l) ∙ sym (bit_at_byte x i k hk) ∙ ap (bit_at x) e)
+  out_number X b c hb hc =
+      let i : ℕ = 165 * p + (5 * b + c) in
+      get_or-append (take 165 (drop (165 * p) x)) (take 90 (drop (90 * p) s)) 0 (5 * b + c) (omega (arith, front))
+      ∙ get_or-take 165 (drop (165 * p) x) (5 * b + c) 0 (omega arith) ∙ get_or-drop (165 * p) x (5 * b + c) 0
+      ∙ by_bits (get_or x i 0) _ (X.byte i)
+      (λ k hk. let e : 8 * i + k ≡ 1320 * p + (40 * b + (8 * c + k)) = omega arith in sym (bit_at_byte x i k hk) ∙ ap (bit_at x) e)
 
-  kept_bit : (p q c k : ℕ) → k < 8 → bit_of 8 (block_byte (x ++ s) p (33 + q) c) k ≡ stored s p (40 * q + (8 * c + k))
+  kept_number : AllBytes s → (q c : ℕ) → q < 18 → c < 5 → block_byte (lane_of x s p) (33 + q) c ≡ number 8 (λ k. stored s p (40 * q + (8 * c + k)))
   unfolding block_byte
-  kept_bit p q c k hk =
-      let i : ℕ = 90 * p + 5 * q + c in
-      let f : 5280 + 90 * p + 5 * q + c ≡ length x + i = omega arith in
-      let e : 8 * i + k ≡ 720 * p + (40 * q + (8 * c + k)) = omega arith in
-      rw (store_start p q)
-      (ap (λ (v : ℕ). bit_of 8 v k) (ap (λ (j : ℕ). get_or (x ++ s) j 0) f ∙ get_or-append-add x s i 0) ∙ sym (bit_at_byte s i k hk) ∙ ap (bit_at s) e)
+  kept_number S q c hq hc =
+      let i : ℕ = 90 * p + (5 * q + c) in
+      let f : 5 * (33 + q) + c ≡ length (take 165 (drop (165 * p) x)) + (5 * q + c) = omega (arith, front) in
+      ap (λ (j : ℕ). get_or (lane_of x s p) j 0) f
+      ∙ get_or-append-add (take 165 (drop (165 * p) x)) (take 90 (drop (90 * p) s)) (5 * q + c) 0
+      ∙ get_or-take 90 (drop (90 * p) s) (5 * q + c) 0 (omega arith) ∙ get_or-drop (90 * p) s (5 * q + c) 0
+      ∙ by_bits (get_or s i 0) _ (S.byte i)
+      (λ k hk. let e : 8 * i + k ≡ 720 * p + (40 * q + (8 * c + k)) = omega arith in sym (bit_at_byte s i k hk) ∙ ap (bit_at s) e)
 
--- a byte of a block is a byte
-block_lt : (z : List ℕ) → AllBytes z → (p b c : ℕ) → block_byte z p b c < 256
-unfolding block_byte
-block_lt z Z p b c = Z.byte (block_start p b + c)
-
--- byte i of what comes out of z, a frame with its store behind it
-abbrev pub out_of : Rows → List ℕ → ℕ → ℕ
-out_of R z i = block_byte z (i / 165) (out_from R (i % 165 / 5)) (i % 5)
+-- byte i of what comes out of a frame x and its store s
+abbrev pub out_of : Rows → List ℕ → List ℕ → ℕ → ℕ
+out_of R x s i = block_byte (lane_of x s (i / 165)) (out_from R (i % 165 / 5)) (i % 5)
 
 -- and of what is kept
-abbrev pub kept_of : Rows → List ℕ → ℕ → ℕ
-kept_of R z i = block_byte z (i / 90) (kept_from R (i % 90 / 5)) (i % 5)
+abbrev pub kept_of : Rows → List ℕ → List ℕ → ℕ → ℕ
+kept_of R x s i = block_byte (lane_of x s (i / 90)) (kept_from R (i % 90 / 5)) (i % 5)
 
 -- what the code stores for rows R
-module _ (R : Rows) (x s : List ℕ) (long : length x ≡ 5280) (Z : AllBytes (x ++ s)) (y : Lanes)
+module _ (R : Rows) (apart : Apart R) (x s : List ℕ) (long : length x ≡ 5280) (X : AllBytes x) (S : AllBytes s) (y : Lanes)
     (same : (p i : ℕ) → p < 32 → i < 1320 → lanes_of x p i ≡ y p i) where
+  -- a block that entered with the frame
+  entered_number : (p b c : ℕ) → p < 32 → b < 33 → c < 5 → block_byte (lane_of x s p) b c ≡ number 8 (λ k. y p (40 * b + (8 * c + k)))
+  entered_number p b c hp hb hc =
+      out_number x s long p hp X b c hb hc ∙ value_cong 2 8 _ _ (λ k h. same p (40 * b + (8 * c + k)) hp (omega arith))
+
   -- the 33 blocks that come out
-  out_byte : (p b c : ℕ) → p < 32 → b < 33 → c < 5 → block_byte (x ++ s) p (out_from R b) c ≡ number 8 (λ k. rows_out R s y p (40 * b + (8 * c + k)))
-  unfolding rows_out out_from
-  out_byte p b c hp hb hc = by_bits (block_byte (x ++ s) p (out_from R b) c) _ (block_lt (x ++ s) Z p (out_from R b) c) bit
+  out_byte : (p b c : ℕ) → p < 32 → b < 33 → c < 5 → block_byte (lane_of x s p) (out_from R b) c ≡ number 8 (λ k. rows_out R s y p (40 * b + (8 * c + k)))
+  unfolding rows_out out_from Apart
+  out_byte p b c hp hb hc = moved (ltb n d) refl ∙ value_cong 2 8 _ _ bit
     where
       r : ℕ
       r = b % 3
@@ -190,23 +196,23 @@ module _ (R : Rows) (x s : List ℕ) (long : length x ≡ 5280) (Z : AllBytes (x
       goal : Bool → ℕ → ℕ
       goal g m = cond g (stored s p (40 * (R.start r + (d - suc n)) + m)) (y p (40 * (3 * (n - d) + r) + m))
 
-      moved : (g : Bool) (k : ℕ) → k < 8 → bit_of 8 (block_byte (x ++ s) p (from g) c) k ≡ goal g (8 * c + k)
-      moved true k h = kept_bit x s long p (R.start r + (d - suc n)) c k h
-      moved false k h =
-          let l : 3 * (n - d) + r < 33 = omega arith in
-          out_bit x s long p (3 * (n - d) + r) c k hp l hc h ∙ same p (40 * (3 * (n - d) + r) + (8 * c + k)) hp (omega arith)
+      moved : (g : Bool) → ltb n d ≡ g → block_byte (lane_of x s p) (from g) c ≡ number 8 (λ k. goal g (8 * c + k))
+      moved true e =
+          let h : n < d = ltb-true n d e in
+          kept_number x s long p hp S (R.start r + (d - suc n)) c (apart r (d - suc n) (omega arith) (omega arith)).0 hc
+      moved false e = entered_number p (3 * (n - d) + r) c hp (omega arith) hc
 
-      bit : (k : ℕ) → k < 8 → bit_of 8 (block_byte (x ++ s) p (out_from R b) c) k ≡ rows_out R s y p (40 * b + (8 * c + k))
+      bit : (k : ℕ) → k < 8 → goal (ltb n d) (8 * c + k) ≡ rows_out R s y p (40 * b + (8 * c + k))
       bit k h =
           let m : ℕ = 8 * c + k in
           let e : (40 * b + m) / 40 ≡ b = omega arith in
           let f : (40 * b + m) % 40 ≡ m = omega arith in
-          rw (e, f) (moved (ltb n d) k h)
+          rw (e, f)
 
   -- the 18 that are kept
-  kept_byte : (p j c : ℕ) → p < 32 → j < 18 → c < 5 → block_byte (x ++ s) p (kept_from R j) c ≡ number 8 (λ k. store_bit R s y p (40 * j + (8 * c + k)))
+  kept_byte : (p j c : ℕ) → p < 32 → j < 18 → c < 5 → block_byte (lane_of x s p) (kept_from R j) c ≡ number 8 (λ k. store_bit R s y p (40 * j + (8 * c + k)))
   unfolding store_bit kept_from
-  kept_byte p j c hp hj hc = by_bits (block_byte (x ++ s) p (kept_from R j) c) _ (block_lt (x ++ s) Z p (kept_from R j) c) bit
+  kept_byte p j c hp hj hc = moved (ltb q 11) refl ∙ value_cong 2 8 _ _ bit
     where
       r : ℕ
       r = row_at R j
@@ -228,20 +234,20 @@ module _ (R : Rows) (x s : List ℕ) (long : length x ≡ 5280) (Z : AllBytes (x
       goal : Bool → ℕ → ℕ
       goal g m = cond g (y p (40 * (3 * (11 - suc q) + r) + m)) (stored s p (40 * (R.start r + (q - 11)) + m))
 
-      moved : (g : Bool) (k : ℕ) → k < 8 → bit_of 8 (block_byte (x ++ s) p (from g) c) k ≡ goal g (8 * c + k)
-      moved true k h =
-          let l : 3 * (11 - suc q) + r < 33 = omega (arith, row_lt) in
-          out_bit x s long p (3 * (11 - suc q) + r) c k hp l hc h ∙ same p (40 * (3 * (11 - suc q) + r) + (8 * c + k)) hp (omega arith)
-      moved false k h = kept_bit x s long p (R.start r + (q - 11)) c k h
+      moved : (g : Bool) → ltb q 11 ≡ g → block_byte (lane_of x s p) (from g) c ≡ number 8 (λ k. goal g (8 * c + k))
+      moved true e = entered_number p (3 * (11 - suc q) + r) c hp (omega (arith, row_lt)) hc
+      moved false e =
+          let h : 11 ≤ q = ltb-false q 11 e in
+          kept_number x s long p hp S (R.start r + (q - 11)) c (omega arith) hc
 
-      bit : (k : ℕ) → k < 8 → bit_of 8 (block_byte (x ++ s) p (kept_from R j) c) k ≡ store_bit R s y p (40 * j + (8 * c + k))
+      bit : (k : ℕ) → k < 8 → goal (ltb q 11) (8 * c + k) ≡ store_bit R s y p (40 * j + (8 * c + k))
       bit k h =
           let m : ℕ = 8 * c + k in
           let e : (40 * j + m) / 40 ≡ j = omega arith in
           let f : (40 * j + m) % 40 ≡ m = omega arith in
-          rw (e, f) (moved (ltb q 11) k h)
+          rw (e, f)
 
-  pub out_is : tabulate 5280 (out_of R (x ++ s)) ≡ lane_bytes (rows_out R s y)
+  pub out_is : tabulate 5280 (out_of R x s) ≡ lane_bytes (rows_out R s y)
   unfolding lane_bytes bytes
   out_is =
       tabulate_cong 5280 _ _
@@ -249,7 +255,7 @@ module _ (R : Rows) (x s : List ℕ) (long : length x ≡ 5280) (Z : AllBytes (x
       out_byte (i / 165) (i % 165 / 5) (i % 5) (omega arith) (omega arith) (omega arith)
       ∙ sym (lane_byte_lem 165 five_165 (lit< tt) (rows_out R s y) i))
 
-  pub kept_is : tabulate 2880 (kept_of R (x ++ s)) ≡ store_next R s y
+  pub kept_is : tabulate 2880 (kept_of R x s) ≡ store_next R s y
   unfolding store_next bytes
   kept_is =
       tabulate_cong 2880 _ _
@@ -343,63 +349,6 @@ part_step f {n} {i} {out₀} {out} e m part w F q le is agree =
     let size : m ≡ length (take (e - i) (drop i out)) = simp (length-take, length-drop) (omega (arith, F.long)) in
     filling_put f e part (λ _. w) F (omega arith) le (is ∙ ap (λ (l : ℕ). tabulate l w) size) (λ k h. agree k (omega arith))
 
--- byte i of the blocks of lane p whose numbers are from 0, from 1, ..
-abbrev pub moved_byte : List ℕ → (ℕ → ℕ) → ℕ → ℕ → ℕ
-moved_byte z from p i = block_byte z p (from (i / 5)) (i % 5)
-
--- a block that is read
-pub block_read : (z : List ℕ) (v : ℕ) → v + 5 ≤ length z → take 5 (drop v z) ≡ tabulate 5 (λ c. get_or z (v + c) 0)
-block_read z v room =
-    is_tabulate 0 (take 5 (drop v z)) 5 _ (simp (length-take, length-drop) (omega arith))
-    (λ c h. get_or-take 5 (drop v z) c 0 h ∙ get_or-drop v z c 0)
-
--- a step that lends the part of block b, where the block that begins at v is stored
-pub block_step : (z : List ℕ) (from : ℕ → ℕ) (p b v e : ℕ) (part : List ℕ) {n i : ℕ} {out₀ out : List ℕ} → (v ≡ block_start p (from b)) × (v + 5 ≤ length z)
-    → Filling (moved_byte z from p) n out₀ out i → (i ≡ 5 * b) × (e ≡ i + 5) × (e ≤ n) → part ≡ take 5 (drop v z)
-    → Filling (moved_byte z from p) n out₀ (take i out ++ (part ++ drop (e - i) (drop i out))) (5 * (b + 1))
-unfolding block_byte
-block_step z from p b v e part {n} {i} q F h is =
-    subst (Filling (moved_byte z from p) n _ _) (omega arith)
-    (part_step (moved_byte z from p) e 5 part (λ c. get_or z (v + c) 0) F (omega arith) h.2 (is ∙ block_read z v q.1) agree)
-  where
-    agree : (k : ℕ) → k < 5 → get_or z (v + k) 0 ≡ get_or z (block_start p (from ((i + k) / 5)) + (i + k) % 5) 0
-    agree k l =
-        let d : b ≡ (i + k) / 5 = omega arith in
-        let r : k ≡ (i + k) % 5 = omega arith in
-        (λ w. get_or z (q.0 w + k) 0) ∙ (λ w. get_or z (block_start p (from (d w)) + r w) 0)
-
--- the two rows that fill a store, one behind the other
-pub rows_joined : {R : Rows} {r : ℕ} (z : List ℕ) (p : ℕ) {s t : List ℕ} → FillStore R r
-    → s ≡ tabulate (5 * R.depth r) (moved_byte z (λ j. kept_from R (R.start r + j)) p)
-    → t ≡ tabulate (5 * R.depth (r + 1)) (moved_byte z (λ j. kept_from R (R.start (r + 1) + j)) p)
-    → s ++ t ≡ tabulate 90 (moved_byte z (kept_from R) p)
-rows_joined {R} {r} z p F es et =
-    ap₂ ◌++◌ (es ∙ tabulate_cong m _ f (λ i _. at i i (R.start r) (omega arith) (omega arith)))
-    (et ∙ tabulate_cong n _ (λ i. f (m + i)) (λ i _. at i (m + i) (R.start (r + 1)) (omega arith) (omega arith)))
-    ∙ sym (tabulate_append m n f) ∙ ap (λ (k : ℕ). tabulate k f) (omega arith)
-  where
-    f : ℕ → ℕ
-    f = moved_byte z (kept_from R) p
-
-    m : ℕ
-    m = 5 * R.depth r
-
-    n : ℕ
-    n = 5 * R.depth (r + 1)
-
-    at : (i k s : ℕ) → s + i / 5 ≡ k / 5 → i % 5 ≡ k % 5 → block_byte z p (kept_from R (s + i / 5)) (i % 5) ≡ f k
-    at i k s d c = λ w. block_byte z p (kept_from R (d w)) (c w)
-
--- the same bytes counted over the lanes: byte k of lane p of L bytes
-pub lane_block : (z : List ℕ) (from : ℕ → ℕ) (L p k : ℕ) → ((i : ℕ) → i % L % 5 ≡ i % 5) → k < L
-    → moved_byte z from p k ≡ block_byte z ((L * p + k) / L) (from ((L * p + k) % L / 5)) ((L * p + k) % 5)
-lane_block z from L p k five h =
-    let e : p * L + k ≡ L * p + k = ap (λ (x : ℕ). x + k) (mul_comm p L) in
-    let d : p ≡ (L * p + k) / L = sym (digits_div p h) ∙ ap (λ (x : ℕ). x / L) e in
-    let r : k ≡ (L * p + k) % L = sym (digits_mod p h) ∙ ap (λ (x : ℕ). x % L) e in
-    let c : k % 5 ≡ (L * p + k) % 5 = ap (λ (x : ℕ). x % 5) r ∙ five (L * p + k) in
-    λ w. block_byte z (d w) (from (r w / 5)) (c w)
-
 -- a step that lends the part of number p of L bytes: a lane, or sixteen blocks
 pub lane_step : (f : ℕ → ℕ) {n : ℕ} {out₀ out : List ℕ} (L p e : ℕ) (part : List ℕ) (w : ℕ → ℕ) → Filling f n out₀ out (L * p) → e ≡ L * p + L → e ≤ n
     → part ≡ tabulate L w → ((k : ℕ) → k < L → w k ≡ f (L * p + k))
@@ -407,3 +356,84 @@ pub lane_step : (f : ℕ → ℕ) {n : ℕ} {out₀ out : List ℕ} (L p e : ℕ
 lane_step f {n} {out₀} L p e part w F q le is agree =
     let next : e ≡ L * (p + 1) = q ∙ sym (rw (add-one, mul-suc)) in
     subst (Filling f n out₀ _) next (part_step f e L part w F q le is agree)
+
+-- byte i of five masks over and over, from m on
+abbrev pub mask_at : List ℕ → ℕ → ℕ → ℕ
+mask_at masks m i = get_or masks (m + i % 5) 0
+
+-- a step that copies them once more
+pub mask_step : (masks : List ℕ) (m b e t : ℕ) (part : List ℕ) {out₀ out : List ℕ} → Filling (mask_at masks m) 80 out₀ out (5 * b)
+    → (e ≡ 5 * b + 5) × (e ≤ 80) × (t ≡ m + 5) × (t ≤ length masks) → part ≡ take (t - m) (drop m masks)
+    → Filling (mask_at masks m) 80 out₀ (take (5 * b) out ++ (part ++ drop (e - 5 * b) (drop (5 * b) out))) (5 * (b + 1))
+mask_step masks m b e t part F h is = lane_step (mask_at masks m) 5 b e part (λ k. get_or masks (m + k) 0) F h.0 h.1 whole agree
+  where
+    whole : part ≡ tabulate 5 (λ k. get_or masks (m + k) 0)
+    whole =
+        is ∙ is_tabulate 0 (take (t - m) (drop m masks)) 5 _ (simp (length-take, length-drop) (omega arith))
+        (λ k l. get_or-take (t - m) (drop m masks) k 0 (omega arith) ∙ get_or-drop m masks k 0)
+
+    agree : (k : ℕ) → k < 5 → get_or masks (m + k) 0 ≡ get_or masks (m + (5 * b + k) % 5) 0
+    agree k l = let d : k ≡ (5 * b + k) % 5 = omega arith in ap (λ (j : ℕ). get_or masks (m + j) 0) d
+
+-- byte i of the blocks of a lane whose numbers are from 0, from 1, ..
+abbrev pub moved_byte : List ℕ → (ℕ → ℕ) → ℕ → ℕ
+moved_byte z from i = block_byte z (from (i / 5)) (i % 5)
+
+-- a byte of a block that was copied
+pub block_read : (z : List ℕ) (v c : ℕ) {part : List ℕ} → part ≡ block_of z v → c < 5 → get_or part c 0 ≡ block_byte z v c
+unfolding block_byte
+block_read z v c is h = ap (λ (s : List ℕ). get_or s c 0) is ∙ get_or-take 5 (drop (5 * v) z) c 0 h ∙ get_or-drop (5 * v) z c 0
+
+pub block_filled : (z : List ℕ) (v : ℕ) → 5 * v + 5 ≤ length z → tabulate 5 (block_byte z v) ≡ block_of z v
+block_filled z v room = sym (is_tabulate 0 (block_of z v) 5 (block_byte z v) (simp (length-take, length-drop) (omega arith)) (λ c. block_read z v c refl))
+
+-- a step that lends the part of block b, where another is copied
+pub block_step : (z : List ℕ) (from : ℕ → ℕ) (b e : ℕ) (part : List ℕ) {n i : ℕ} {out₀ out : List ℕ} → Filling (moved_byte z from) n out₀ out i
+    → (i ≡ 5 * b) × (e ≡ i + 5) × (e ≤ n) → length part ≡ length (take (e - i) (drop i out)) → part ≡ block_of z (from b)
+    → Filling (moved_byte z from) n out₀ (take i out ++ (part ++ drop (e - i) (drop i out))) (5 * (b + 1))
+block_step z from b e part {n} {i} {out₀} {out} F h size is =
+    subst (Filling (moved_byte z from) n _ _) (omega arith) (part_step (moved_byte z from) e 5 part (block_byte z (from b)) F (omega arith) h.2 whole agree)
+  where
+    five : length part ≡ 5
+    five = size ∙ simp (length-take, length-drop) (omega (arith, F.long))
+
+    whole : part ≡ tabulate 5 (block_byte z (from b))
+    whole = is_tabulate 0 part 5 _ five (λ c l. block_read z (from b) c is l)
+
+    agree : (k : ℕ) → k < 5 → block_byte z (from b) k ≡ block_byte z (from ((i + k) / 5)) ((i + k) % 5)
+    agree k l =
+        let d : b ≡ (i + k) / 5 = omega arith in
+        let r : k ≡ (i + k) % 5 = omega arith in
+        λ w. block_byte z (from (d w)) (r w)
+
+-- the two rows that fill a store, one behind the other
+pub rows_joined : {R : Rows} {r : ℕ} (z : List ℕ) {s t : List ℕ} → FillStore R r
+    → s ≡ tabulate (5 * R.depth r) (moved_byte z (λ j. kept_from R (R.start r + j)))
+    → t ≡ tabulate (5 * R.depth (r + 1)) (moved_byte z (λ j. kept_from R (R.start (r + 1) + j)))
+    → s ++ t ≡ tabulate 90 (moved_byte z (kept_from R))
+rows_joined {R} {r} z F es et =
+    ap₂ ◌++◌ (es ∙ tabulate_cong m _ f (λ i _. at i i (R.start r) (omega arith) (omega arith)))
+    (et ∙ tabulate_cong n _ (λ i. f (m + i)) (λ i _. at i (m + i) (R.start (r + 1)) (omega arith) (omega arith)))
+    ∙ sym (tabulate_append m n f) ∙ ap (λ (k : ℕ). tabulate k f) (omega arith)
+  where
+    f : ℕ → ℕ
+    f = moved_byte z (kept_from R)
+
+    m : ℕ
+    m = 5 * R.depth r
+
+    n : ℕ
+    n = 5 * R.depth (r + 1)
+
+    at : (i k s : ℕ) → s + i / 5 ≡ k / 5 → i % 5 ≡ k % 5 → block_byte z (kept_from R (s + i / 5)) (i % 5) ≡ f k
+    at i k s d c = λ w. block_byte z (kept_from R (d w)) (c w)
+
+-- byte k of lane p, of L bytes, counted over the lanes
+pub lane_block : (x s : List ℕ) {z : List ℕ} (from : ℕ → ℕ) (L p k : ℕ) → z ≡ lane_of x s p → ((i : ℕ) → i % L % 5 ≡ i % 5) → k < L
+    → moved_byte z from k ≡ block_byte (lane_of x s ((L * p + k) / L)) (from ((L * p + k) % L / 5)) ((L * p + k) % 5)
+lane_block x s {z} from L p k is five h =
+    let e : p * L + k ≡ L * p + k = ap (λ (x : ℕ). x + k) (mul_comm p L) in
+    let d : p ≡ (L * p + k) / L = sym (digits_div p h) ∙ ap (λ (x : ℕ). x / L) e in
+    let r : k ≡ (L * p + k) % L = sym (digits_mod p h) ∙ ap (λ (x : ℕ). x % L) e in
+    let c : k % 5 ≡ (L * p + k) % 5 = ap (λ (x : ℕ). x % 5) r ∙ five (L * p + k) in
+    ap (λ (z : List ℕ). moved_byte z from k) is ∙ (λ w. block_byte (lane_of x s (d w)) (from (r w / 5)) (c w))

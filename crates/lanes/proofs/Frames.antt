@@ -2,42 +2,28 @@
 -- Assumes nothing.
 use mathlib.Core.Path.{◌≡◌, refl, sym, ap, ◌∙◌, subst}
 use mathlib.Core.Bool.{Bool, true, ◌&&◌}
-use mathlib.Core.List.{List, ◌++◌}
-use Prim.Native.Nat.{ℕ, ◌+◌, ◌-◌, ◌/◌, ◌%◌, ◌<◌}
-use native.Mathlib.Decide.{dec_lt}
-use native.Mathlib.Omega.{arith}
+use mathlib.Core.List.{List}
+use Prim.Native.Nat.{ℕ, ◌/◌, ◌%◌, ◌<◌}
 use lib.Dec.{eqb}
-use lib.ListN.{get_or, length, take, get_or-append}
-use lib.Seq.{get_or-append-add, take_at}
+use lib.ListN.{length}
 use borrow.Author.Tests.{eq-eqb}
 use Rattle.bits.specs.definitions.Bits.{tabulate, AllBytes}
 use Rattle.bits.proofs.Fields.{length_bytes}
 use Rattle.lanes.specs.definitions.Permutation.{Lanes, Places, named, permuted, lanes_of, lane_bytes}
 use Rattle.lanes.specs.definitions.Interleaver.{sender, receiver, rows_out, interleaved_frame, interleaved_store, deinterleaved_frame, deinterleaved_store}
 use Rattle.lanes.specs.definitions.Interleaver.{DeinterleavesFrame}
-use Rattle.lanes.proofs.Bytewise.{out_of, kept_of, out_is, kept_is, frame_bit, permuted_lt, rows_out_lt, lanes_lt, permuted_cong}
+use Rattle.lanes.proofs.Rows.{sender_apart, receiver_apart}
+use Rattle.lanes.proofs.Bytewise.{out_of, kept_of, out_is, kept_is, frame_bit, frame_bytes, permuted_lt, rows_out_lt, lanes_lt, permuted_cong}
 
--- the frame that stands in front of its store
-pub in_front : (x s : List ℕ) {z : List ℕ} → length x ≡ 5280 → z ≡ x ++ s → x ≡ take 5280 z
-in_front x s {z} long is = sym (ap (take 5280) is ∙ take_at x s 5280 long)
-
-pub bytes_joined : {x s : List ℕ} → AllBytes x → AllBytes s → AllBytes (x ++ s)
-bytes_joined {x} {s} X S = record { byte = λ m. at m (dec_lt m (length x)) }
-  where
-    at : (m : ℕ) → Dec (m < length x) → get_or (x ++ s) m 0 < 256
-    at m (yes h) = rw (get_or-append x s 0 m h) (X.byte m)
-    at m (no h) =
-        let e : m ≡ length x + (m - length x) = omega arith in
-        rw (ap (λ (k : ℕ). get_or (x ++ s) k 0) e ∙ get_or-append-add x s (m - length x) 0) (S.byte (m - length x))
-
--- a frame a and its store s, and z, a frame with that store behind it
-module _ (e : ℕ) (a s : List ℕ) {z out next : List ℕ} (Z : AllBytes z) where
-  pub interleave_law : {x : List ℕ} → x ≡ lane_bytes (permuted (named e) (lanes_of a)) → z ≡ x ++ s → out ≡ tabulate 5280 (out_of sender z)
-      → next ≡ tabulate 2880 (kept_of sender z) → (out ≡ interleaved_frame (named e) a s) × (next ≡ interleaved_store (named e) a s)
+-- a frame a and its store s
+module _ (e : ℕ) (a s : List ℕ) {out next : List ℕ} (S : AllBytes s) where
+  -- x is the lanes after they were permuted
+  pub interleave_law : {x : List ℕ} → x ≡ lane_bytes (permuted (named e) (lanes_of a)) → out ≡ tabulate 5280 (out_of sender x s)
+      → next ≡ tabulate 2880 (kept_of sender x s) → (out ≡ interleaved_frame (named e) a s) × (next ≡ interleaved_store (named e) a s)
   unfolding interleaved_frame interleaved_store lane_bytes
-  interleave_law {x} ex is eo en = (
-    eo ∙ ap (λ (l : List ℕ). tabulate 5280 (out_of sender l)) is ∙ out_is sender x s long X y same,
-    en ∙ ap (λ (l : List ℕ). tabulate 2880 (kept_of sender l)) is ∙ kept_is sender x s long X y same,
+  interleave_law {x} ex eo en = (
+    eo ∙ out_is sender sender_apart x s long X S y same,
+    en ∙ kept_is sender sender_apart x s long X S y same,
   )
     where
       y : Lanes
@@ -49,32 +35,28 @@ module _ (e : ℕ) (a s : List ℕ) {z out next : List ℕ} (Z : AllBytes z) whe
       long : length x ≡ 5280
       long = ap length ex ∙ length_bytes 5280 (λ j. y (j / 1320) (j % 1320))
 
-      X : AllBytes (x ++ s)
-      X = subst AllBytes is Z
+      X : AllBytes x
+      X = subst AllBytes (sym ex) (frame_bytes y bit)
 
       same : (p i : ℕ) → p < 32 → i < 1320 → lanes_of x p i ≡ y p i
       same p i hp hi = ap (λ (l : List ℕ). lanes_of l p i) ex ∙ frame_bit y bit p i hp hi
 
   -- y is the lanes before they are permuted
-  pub deinterleave_law : {y : List ℕ} → length a ≡ 5280 → z ≡ a ++ s → y ≡ tabulate 5280 (out_of receiver z)
-      → next ≡ tabulate 2880 (kept_of receiver z) → out ≡ lane_bytes (permuted (named e) (lanes_of y))
+  pub deinterleave_law : {y : List ℕ} → length a ≡ 5280 → AllBytes a → y ≡ tabulate 5280 (out_of receiver a s)
+      → next ≡ tabulate 2880 (kept_of receiver a s) → out ≡ lane_bytes (permuted (named e) (lanes_of y))
       → (out ≡ deinterleaved_frame (named e) a s) × (next ≡ deinterleaved_store a s)
-  unfolding deinterleaved_frame deinterleaved_store lane_bytes
-  deinterleave_law {y} long is ey en eo = (
+  unfolding deinterleaved_frame deinterleaved_store
+  deinterleave_law {y} long A ey en eo = (
     eo ∙ permuted_cong (named e) (lanes_of y) back same,
-    en ∙ ap (λ (l : List ℕ). tabulate 2880 (kept_of receiver l)) is ∙ kept_is receiver a s long A (lanes_of a) (λ p i hp hi. refl),
+    en ∙ kept_is receiver receiver_apart a s long A S (lanes_of a) (λ p i hp hi. refl),
   )
     where
       back : Lanes
       back = rows_out receiver s (lanes_of a)
 
-      A : AllBytes (a ++ s)
-      A = subst AllBytes is Z
-
       same : (p i : ℕ) → p < 32 → i < 1320 → lanes_of y p i ≡ back p i
       same p i hp hi =
-          ap (λ (l : List ℕ). lanes_of l p i)
-          (ey ∙ ap (λ (l : List ℕ). tabulate 5280 (out_of receiver l)) is ∙ out_is receiver a s long A (lanes_of a) (λ p i hp hi. refl))
+          ap (λ (l : List ℕ). lanes_of l p i) (ey ∙ out_is receiver receiver_apart a s long A S (lanes_of a) (λ p i hp hi. refl))
           ∙ frame_bit back (rows_out_lt receiver s (lanes_of a) (lanes_lt a)) p i hp hi
 
 -- ---- the lengths of what is lent

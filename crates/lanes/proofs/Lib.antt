@@ -1,7 +1,7 @@
 pub mod Lists
 pub mod Entries
 pub mod Bytewise
-pub mod Starts
+pub mod Blocks
 pub mod Turns
 pub mod Frames
 pub mod Rows

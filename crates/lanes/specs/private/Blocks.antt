@@ -1,7 +1,7 @@
 -- What the code's own functions say of whole blocks: a lane's frame and its store are 51 blocks of five bytes, and a stage moves them. No promise to a
 -- caller rests on a definition here.
 -- Assumes nothing.
-use Rattle.std.specs.Prelude.{◌≡◌, cond, List, ℕ, suc, ◌+◌, ◌*◌, ◌-◌, ◌/◌, ◌%◌, ◌<◌, eqb, ltb, length, get_or}
+use Rattle.std.specs.Prelude.{◌≡◌, cond, List, ◌++◌, ℕ, suc, ◌+◌, ◌*◌, ◌-◌, ◌/◌, ◌%◌, ◌<◌, eqb, ltb, length, get_or, take, drop}
 use Rattle.std.specs.Int.Bits.{bit_and, bit_xor}
 use Rattle.bits.specs.definitions.Bits.{bit_of}
 use Rattle.lanes.specs.definitions.Permutation.{Places}
@@ -15,13 +15,17 @@ pub record FillStore (R : Rows) (r : ℕ) : Type 0 where
   pub whole : R.depth r + R.depth (r + 1) ≡ 18
   pub other : R.depth ((r + 2) % 3) ≡ 0
 
--- where block b of lane p begins in a frame with its store behind it: the frame has 33 blocks a lane, and the store 18
-unfoldable pub block_start : ℕ → ℕ → ℕ
-block_start p b = cond (ltb b 33) (165 * p + 5 * b) (5280 + 90 * p + 5 * (b - 33))
+-- lane p of a frame x and of its store s: the frame's 33 blocks of five bytes, with the store's 18 behind them
+abbrev pub lane_of : List ℕ → List ℕ → ℕ → List ℕ
+lane_of x s p = take 165 (drop (165 * p) x) ++ take 90 (drop (90 * p) s)
+
+-- block b of a lane
+abbrev pub block_of : List ℕ → ℕ → List ℕ
+block_of z b = take 5 (drop (5 * b) z)
 
 -- byte c of it
-unfoldable pub block_byte : List ℕ → ℕ → ℕ → ℕ → ℕ
-block_byte z p b c = get_or z (block_start p b + c) 0
+unfoldable pub block_byte : List ℕ → ℕ → ℕ → ℕ
+block_byte z b c = get_or z (5 * b + c) 0
 
 -- the block that comes out as block b: number b / 3 of row b mod 3
 unfoldable pub out_from : Rows → ℕ → ℕ
@@ -30,10 +34,10 @@ out_from R b = cond (ltb (b / 3) (d)) (33 + (R.start (b % 3) + (d - suc (b / 3))
     d : ℕ
     d = R.depth (b % 3)
 
--- the 165 bytes of lane p are those of o₀, but for the blocks that come out of row r at its first n turns, of z, a frame with its store behind it
-pub record TurnsOut (R : Rows) (z : List ℕ) (p r n : ℕ) (o₀ o : List ℕ) : Type 0 where
+-- the 165 bytes of o are those of o₀, but for the blocks that come out of row r of a lane z at its first n turns
+pub record TurnsOut (R : Rows) (z : List ℕ) (r n : ℕ) (o₀ o : List ℕ) : Type 0 where
   pub long : length o ≡ length o₀
-  pub here : (i : ℕ) → i < 165 → i / 5 % 3 ≡ r → i / 15 < n → get_or o i 0 ≡ block_byte z p (out_from R (i / 5)) (i % 5)
+  pub here : (i : ℕ) → i < 165 → i / 5 % 3 ≡ r → i / 15 < n → get_or o i 0 ≡ block_byte z (out_from R (i / 5)) (i % 5)
   pub there : (i : ℕ) → (i / 5 % 3 ≡ r → i / 15 < n → ⊥) → get_or o i 0 ≡ get_or o₀ i 0
 
 -- the block that is kept as block j of the store

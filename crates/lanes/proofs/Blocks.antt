@@ -1,26 +1,23 @@
--- Which blocks of a lane, of a frame with its store behind it, come out of a row and are kept by a row, and where they begin.
+-- Which blocks of a lane, of a frame with its store behind it, come out of a row and are kept by a row.
 -- Assumes nothing.
-use mathlib.Core.Path.{◌≡◌}
+use mathlib.Core.Path.{◌≡◌, sym, ap, ◌∙◌}
 use mathlib.Core.Bool.{cond}
+use mathlib.Core.List.{List, ◌++◌}
 use Prim.Native.Nat.{ℕ, suc, ◌+◌, ◌*◌, ◌-◌, ◌/◌, ◌%◌, ◌≤◌, ◌<◌}
 use native.Mathlib.Omega.{arith}
 use lib.Dec.{ltb}
+use lib.ListN.{length, take, drop}
+use lib.Seq.{drop-append-add}
 use borrow.Author.Tests.{lt-ltb, le-ltb}
 use Rattle.lanes.specs.definitions.Interleaver.{Rows, row_at}
-use Rattle.lanes.specs.private.Blocks.{block_start, out_from, kept_from}
+use Rattle.lanes.specs.private.Blocks.{block_of, out_from, kept_from}
 use Rattle.lanes.proofs.Rows.{Apart}
 
--- one of the frame's 33 blocks, and one of the store's
-pub frame_start : (p b : ℕ) → b < 33 → block_start p b ≡ 165 * p + 5 * b
-unfolding block_start
-frame_start p b h = rw (lt-ltb b 33 h)
-
-pub store_start : (p q : ℕ) → block_start p (33 + q) ≡ 5280 + 90 * p + 5 * q
-unfolding block_start
-store_start p q =
-    let l : 33 ≤ 33 + q = omega arith in
-    let d : 33 + q - 33 ≡ q = omega arith in
-    rw (le-ltb (33 + q) 33 l, d)
+-- a block of the store, which stands behind the frame's 33
+pub store_block : (f s : List ℕ) {z : List ℕ} (q : ℕ) → f ++ s ≡ z → length f ≡ 165 → block_of s q ≡ block_of z (33 + q)
+store_block f s {z} q is long =
+    let e : length f + 5 * q ≡ 5 * (33 + q) = omega arith in
+    ap (take 5) (sym (drop-append-add f s (5 * q)) ∙ ap (λ (n : ℕ). drop n (f ++ s)) e ∙ ap (drop (5 * (33 + q))) is)
 
 -- what comes out of row r at turn t: a block of the store, or one of the frame's
 module _ (R : Rows) (r t : ℕ) (hr : r < 3) where

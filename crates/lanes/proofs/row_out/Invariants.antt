@@ -1,6 +1,0 @@
--- `lanes::row_out` meets its contract: the blocks of the turns before turn t have come out. Assumes nothing.
-use Rattle.lanes.specs.private.Blocks.{TurnsOut}
-use Rattle.lanes.proofs.row_out.Given as goal
-
-abbrev pub invariant-loop-t : goal.invariant-loop-t
-invariant-loop-t g l = TurnsOut g.S.Side.rows l.z l.p l.r l.t l.initial.out l.out

@@ -1,0 +1,131 @@
+// One lane through the interleaver, by whole blocks of five bytes.
+ghost use Rattle.std.specs.Prelude.{◌≡◌, ◌<◌, ◌≤◌, ◌+◌, ◌*◌, ◌/◌, ◌%◌, ◌++◌, List, ℕ, length, take};
+ghost use Rattle.bits.specs.definitions.Bits.{tabulate};
+ghost use Rattle.lanes.specs.private.Blocks.{lane_of, block_of, block_byte, out_from, kept_from, TurnsOut};
+
+use crate::side::Side;
+use std::marker::Model;
+
+// A lane's 33 blocks of a frame, with the 18 of its store behind them.
+#[derive(Drop)]
+pub struct Lane<'a> {
+    frame: &'a [u8],
+    store: &'a [u8],
+}
+
+impl<'a> Model for Lane<'a> {
+    ghost Value = { List ℕ };
+
+    ghost view = { λ lane. lane.frame.now ++ lane.store.now };
+
+    ghost invariant = { λ lane. (length lane.frame.now ≡ 165) × (length lane.store.now ≡ 90) };
+}
+
+// Block b of a lane's frame or of its store.
+fn block_at(blocks: &[u8], b: usize) -> [u8; 5]
+    requires { 5 * b + 5 ≤ length blocks.now }
+    ensures { result ≡ block_of blocks.now b }
+{
+    let at = 5 * b;
+    let mut block = [0u8; 5];
+    for c in 0..5 {
+        block[c] = blocks[at + c];
+    }
+    block
+}
+
+// A block stored, which was read whole before, so that the compiler makes two moves of the five bytes.
+fn put_block(block: [u8; 5], out: &mut [u8])
+    requires { length out.old ≡ 5 }
+    ensures { out.new ≡ block }
+{
+    for c in 0..5 {
+        out[c] = block[c];
+    }
+}
+
+impl<'a> Lane<'a> {
+    // Lane p of a frame and of its store.
+    pub fn of(frame: &'a [u8; 5280], store: &'a [u8; 2880], p: usize) -> Lane<'a>
+        requires { p < 32 }
+        ensures { result ≡ lane_of frame.now store.now p }
+    {
+        let at = 165 * p;
+        let behind = 90 * p;
+        Lane {
+            frame: &frame[at..at + 165],
+            store: &store[behind..behind + 90],
+        }
+    }
+
+    // Block b of the frame.
+    fn entered(&self, b: usize) -> [u8; 5]
+        requires { b < 33 }
+        ensures { result ≡ block_of self.now b }
+    {
+        block_at(self.frame, b)
+    }
+
+    // Block q of the store.
+    fn held(&self, q: usize) -> [u8; 5]
+        requires { q < 18 }
+        ensures { result ≡ block_of self.now (33 + q) }
+    {
+        block_at(self.store, q)
+    }
+
+    // The eleven blocks of row r that come out: first those of the store, oldest first, and then those that entered with the frame.
+    fn row_out<S: Side>(&self, r: usize, out: &mut [u8])
+        requires { (r < 3) × (length out.old ≡ 165) }
+        ensures { TurnsOut S.rows self.now r 11 out.old out.new }
+    {
+        let d = S::depth(r);
+        let n = d.min(11);
+        for t in 0..n {
+            let at = 15 * t + 5 * r;
+            put_block(self.held(S::start(r) + (d - 1 - t)), &mut out[at..at + 5]);
+        }
+        for t in n..11 {
+            let at = 15 * t + 5 * r;
+            put_block(self.entered(3 * (t - d) + r), &mut out[at..at + 5]);
+        }
+    }
+
+    // The blocks that row r keeps, newest first: those that entered with the frame, and then those of the store.
+    fn row_kept<S: Side>(&self, r: usize, next: &mut [u8])
+        requires { (r < 3) × (length next.old ≡ 5 * S.rows.depth r) }
+        ensures { next.new ≡ tabulate (5 * S.rows.depth r) (λ i. block_byte self.now (kept_from S.rows (S.rows.start r + i / 5)) (i % 5)) }
+    {
+        let d = S::depth(r);
+        let n = d.min(11);
+        for q in 0..n {
+            let at = 5 * q;
+            put_block(self.entered(3 * (10 - q) + r), &mut next[at..at + 5]);
+        }
+        for q in n..d {
+            let at = 5 * q;
+            put_block(self.held(S::start(r) + (q - 11)), &mut next[at..at + 5]);
+        }
+    }
+
+    // The 33 blocks that come out. The part lent has the lane's own, so that of the row that holds nothing none is moved.
+    pub fn blocks_out<S: Side>(&self, out: &mut [u8])
+        requires { (length out.old ≡ 165) × (out.old ≡ take 165 self.now) }
+        ensures { out.new ≡ tabulate 165 (λ i. block_byte self.now (out_from S.rows (i / 5)) (i % 5)) }
+    {
+        let r = S::FIRST_KEPT;
+        self.row_out::<S>(r, out);
+        self.row_out::<S>(r + 1, out);
+    }
+
+    // The 18 blocks that are kept: two rows.
+    pub fn blocks_kept<S: Side>(&self, next: &mut [u8])
+        requires { length next.old ≡ 90 }
+        ensures { next.new ≡ tabulate 90 (λ i. block_byte self.now (kept_from S.rows (i / 5)) (i % 5)) }
+    {
+        let r = S::FIRST_KEPT;
+        let (first, second) = next.split_at_mut(5 * S::depth(r));
+        self.row_kept::<S>(r, first);
+        self.row_kept::<S>(r + 1, second);
+    }
+}
