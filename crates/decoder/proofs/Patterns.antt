@@ -15,14 +15,13 @@ use Rattle.bits.proofs.Xor.{xor_assoc, xor_zero_eq}
 use Rattle.bits.proofs.First.{Found, None, first_cases, first_cong, in_tabulate, of_tabulate, in_flatten, of_flatten}
 use Rattle.bch.specs.definitions.Code.{CodeWord, remainder, flipped}
 use Rattle.decoder.specs.definitions.Mend.{pairs, patterns, mended, is_code, mend}
-use Rattle.decoder_tables.specs.private.Tables.{single, column, Finds, located_pair, rising_of}
+use Rattle.decoder_tables.specs.private.Tables.{single, column, Finds, located, rising_of}
 use Rattle.decoder.specs.private.Answer.{remainder_of, Pattern, Answers, places_of}
-use Rattle.decoder_tables.specs.declared.Pair.{Pair}
+use Rattle.decoder_tables.specs.declared.Arrays.{Arrays}
 use Rattle.decoder.specs.declared.Mend.{Mend}
 use Rattle.decoder.specs.declared.Mend.TheVariants.{Clean, One, Two, Flagged}
 use Rattle.bch.proofs.Remainder.{remainder_xor, remainder_zero, remainder_code_xor, remainder_lt, remainder_lead, remainder_own}
-use Rattle.decoder_tables.proofs.Lists.{field, log, cube, one, other, place}
-use Rattle.decoder_tables.proofs.Entries.{finds}
+use Rattle.decoder_tables.proofs.Entries.{arrays, finds}
 
 -- the word whose bits are the pattern's
 unfoldable pub mask : Mend → ℕ
@@ -54,9 +53,9 @@ remainder_mask Flagged P = absurd P
 
 places_apart : (m n : Mend) → Pattern m → Pattern n → places_of m ≡ places_of n → m ≡ n
 unfolding Pattern places_of
-places_apart m n P Q e = go m n P Q (ap (λ (p : Pair). p.first) e) (ap (λ (p : Pair). p.second) e)
+places_apart m n P Q e = go m n P Q (ap (λ (p : ℕ × ℕ). p.0) e) (ap (λ (p : ℕ × ℕ). p.1) e)
   where
-    go : (m n : Mend) → Pattern m → Pattern n → (places_of m).first ≡ (places_of n).first → (places_of m).second ≡ (places_of n).second → m ≡ n
+    go : (m n : Mend) → Pattern m → Pattern n → (places_of m).0 ≡ (places_of n).0 → (places_of m).1 ≡ (places_of n).1 → m ≡ n
     go Clean Clean P Q e f = refl
     go Clean (One j) P Q e f = absurd (omega arith)
     go Clean (Two j l) P (o, Q) e f = absurd (omega arith)
@@ -71,8 +70,7 @@ places_apart m n P Q e = go m n P Q (ap (λ (p : Pair). p.first) e) (ap (λ (p :
     go (Two i k) Flagged P Q e f = absurd Q
     go Flagged n P Q e f = absurd P
 
-pub finds_places : {field log cube one other place : List ℕ} → Finds field log cube one other place → (m : Mend) → Pattern m
-    → rising_of (located_pair field log cube one other place (remainder_of m)) ≡ places_of m
+pub finds_places : {a : Arrays} → Finds a → (m : Mend) → Pattern m → rising_of (located a (remainder_of m)) ≡ places_of m
 unfolding Pattern remainder_of places_of
 finds_places F Clean P = F.no_bit
 finds_places F (One i) h = F.one_bit i h
@@ -81,8 +79,7 @@ finds_places F Flagged P = absurd P
 
 pub patterns_apart : (m n : Mend) → Pattern m → Pattern n → remainder_of m ≡ remainder_of n → m ≡ n
 patterns_apart m n P Q e =
-    places_apart m n P Q
-    (sym (finds_places finds m P) ∙ ap (λ (s : ℕ). rising_of (located_pair field log cube one other place s)) e ∙ finds_places finds n Q)
+    places_apart m n P Q (sym (finds_places finds m P) ∙ ap (λ (s : ℕ). rising_of (located arrays s)) e ∙ finds_places finds n Q)
 
 pub answers_unique : (s : ℕ) (m n : Mend) → Answers s m → Answers s n → m ≡ n
 answers_unique s m n (inl (P, e)) (inl (Q, f)) = patterns_apart m n P Q (e ∙ sym f)

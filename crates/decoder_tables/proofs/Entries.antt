@@ -16,8 +16,8 @@ use Rattle.bits.proofs.Xor.{xor_four, bit_cases}
 use Rattle.bits.proofs.Table.{every, every_two, each, table_rule, pairs_rule, range_rule, and_left, and_right}
 use Rattle.bits.proofs.Sums.{sums, sum_at, sums_long, sums_at, sum_xor}
 use Rattle.bch.specs.definitions.Code.{step_of, feed_of, remainder}
-use Rattle.decoder_tables.specs.private.Tables.{single, column, IsColumns, IsSingleBits, Finds, place_by, located_pair, values_of, rising_of}
-use Rattle.decoder_tables.specs.declared.Pair.{Pair}
+use Rattle.decoder_tables.specs.private.Tables.{single, column, IsColumns, IsSingleBits, Finds, place_by, located, values_of, rising_of}
+use Rattle.decoder_tables.specs.declared.Arrays.{Arrays}
 use Rattle.bch.proofs.Remainder.{remainder_lt, remainder_zero, remainder_power}
 use Rattle.decoder_tables.proofs.Lists.{field, log, cube, one, other, place, columns, single_bits}
 
@@ -115,36 +115,50 @@ values_xor s t hs ht =
     ∙ xor_four (sum_at 8 low (s % 256)) (sum_at 8 low (t % 256)) (sum_at 8 high (s / 256)) (sum_at 8 high (t / 256))
     ∙ sym (ap₂ bit_xor (values_are s hs) (values_are t ht))
 
+-- the tables of src/tables.rt
+abbrev pub arrays : Arrays
+arrays =
+    record {
+      field = field;
+      log = log;
+      cube = cube;
+      one = one;
+      other = other;
+      place = place;
+      columns = columns;
+      single_bits = single_bits;
+    }
+
 -- the places that the look-ups lead to from the values v, in rising order
-located : ℕ → Pair
-located v = rising_of (record { first = place_by log cube one place v; second = place_by log cube other place v })
+from_values : ℕ → ℕ × ℕ
+from_values v = rising_of (place_by arrays one v, place_by arrays other v)
 
-leads : Pair → ℕ → ℕ → Bool
-leads p i j = eqb p.first i && eqb p.second j
+leads : ℕ × ℕ → ℕ → ℕ → Bool
+leads p i j = eqb p.0 i && eqb p.1 j
 
-leads_to : (p : Pair) (i j : ℕ) → T (leads p i j) → p ≡ record { first = i; second = j }
+leads_to : (p : ℕ × ℕ) (i j : ℕ) → T (leads p i j) → p ≡ (i, j)
 unfolding leads
 leads_to p i j t =
-    let e : p.first ≡ i = eqb→eq p.first i (and_left (eqb p.first i) (eqb p.second j) t) in
-    let f : p.second ≡ j = eqb→eq p.second j (and_right (eqb p.first i) (eqb p.second j) t) in
-    λ k. record { first = e k; second = f k }
+    let e : p.0 ≡ i = eqb→eq p.0 i (and_left (eqb p.0 i) (eqb p.1 j) t) in
+    let f : p.1 ≡ j = eqb→eq p.1 j (and_right (eqb p.0 i) (eqb p.1 j) t) in
+    λ k. (e k, f k)
 
 -- the values of the single bits
 values : List ℕ
 values = map (values_of field) (take 126 columns)
 
 one_ok : ℕ → ℕ → Bool
-one_ok i v = leads (located v) i 127
+one_ok i v = leads (from_values v) i 127
 
 one_test : T (every one_ok 0 values)
-unfolding one_ok leads located place_by values_of rising_of values
+unfolding one_ok leads from_values place_by values_of rising_of values
 one_test = tt
 
 two_ok : ℕ → ℕ → ℕ → ℕ → Bool
-two_ok i v j w = leads (located (bit_xor v w)) i j
+two_ok i v j w = leads (from_values (bit_xor v w)) i j
 
 two_test : T (every_two two_ok 0 values)
-unfolding two_ok leads located place_by values_of rising_of values
+unfolding two_ok leads from_values place_by values_of rising_of values
 two_test = tt
 
 value_at : (i : ℕ) → i < 126 → get_or values i 0 ≡ values_of field (column i)
@@ -162,8 +176,8 @@ most n [] i h k = zero-le
 most n (x ∷ t) i h zero = leb→le x n (and_left (leb x n) (every (λ k x. leb x n) (suc i) t) h)
 most n (x ∷ t) i h (suc k) = most n t (suc i) (and_right (leb x n) (every (λ k x. leb x n) (suc i) t) h) k
 
-pub finds : Finds field log cube one other place
-unfolding located_pair place_by values_of rising_of located one_ok two_ok values
+pub finds : Finds arrays
+unfolding located place_by values_of rising_of from_values one_ok two_ok values
 finds =
     record {
       no_bit = refl;
@@ -174,10 +188,10 @@ finds =
       place_most = most 127 place 0 tt;
     }
   where
-    lone : (i : ℕ) → i < 126 → located (values_of field (column i)) ≡ record { first = i; second = 127 }
-    lone i h = ap located (sym (value_at i h)) ∙ leads_to (located (get_or values i 0)) i 127 (table_rule one_ok values one_test i h)
+    lone : (i : ℕ) → i < 126 → from_values (values_of field (column i)) ≡ (i, 127)
+    lone i h = ap from_values (sym (value_at i h)) ∙ leads_to (from_values (get_or values i 0)) i 127 (table_rule one_ok values one_test i h)
 
-    both : (i j : ℕ) → i < j → j < 126 → located (values_of field (bit_xor (column i) (column j))) ≡ record { first = i; second = j }
+    both : (i j : ℕ) → i < j → j < 126 → from_values (values_of field (bit_xor (column i) (column j))) ≡ (i, j)
     both i j l h =
-        ap located (values_xor (column i) (column j) (column_lt i) (column_lt j) ∙ sym (ap₂ bit_xor (value_at i (omega arith)) (value_at j h)))
-        ∙ leads_to (located (bit_xor (get_or values i 0) (get_or values j 0))) i j (pairs_rule two_ok values two_test i j l h)
+        ap from_values (values_xor (column i) (column j) (column_lt i) (column_lt j) ∙ sym (ap₂ bit_xor (value_at i (omega arith)) (value_at j h)))
+        ∙ leads_to (from_values (bit_xor (get_or values i 0) (get_or values j 0))) i j (pairs_rule two_ok values two_test i j l h)

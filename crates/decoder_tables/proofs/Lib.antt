@@ -1,3 +1,3 @@
+pub mod Determined
 pub mod Lists
 pub mod Entries
-pub mod Determined

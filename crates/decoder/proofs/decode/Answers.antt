@@ -1,13 +1,24 @@
--- `decoder::decode` meets its contract: the tables keep their rules, as `decoder_tables` says, and what is found is what decoding says. Assumes nothing.
-use mathlib.Core.Path.{◌∙◌}
+-- `decoder::decode` meets its contract: what is found in the word's remainder is what decoding says. Assumes nothing.
+use Rattle.std.proofs.Common.{◌≡◌, ℕ, ◌/◌, ◌%◌, ◌^◌, sym, ap, ◌∙◌}
 use Rattle.bits.specs.definitions.Words.{word_of}
-use Rattle.decoder.proofs.Lookups.{decoded_is}
+use Rattle.decoder.specs.definitions.Mend.{mend, mended}
+use Rattle.decoder.specs.definitions.Word.{decoded}
+use Rattle.decoder.specs.private.Answer.{pattern_of}
+use Rattle.decoder.specs.declared.Mend.{Mend}
+use Rattle.decoder.proofs.Patterns.{mend_remainder}
 use Rattle.decoder.proofs.decode.Goals as goal
 
 pub returns : goal.returns
-unfolding word_of
+unfolding decoded word_of
 returns c =
-    let f = c.find-f in
-    let a = c.args in
-    decoded_is (word_of a.hi a.lo) c.wide16-s.result _ _ f.result _ (c.wide16-s.ensures.0 ∙ c.word_remainder.ensures)
-    f.ensures c.flip-w.ensures.0 c.flip-w.ensures.1 c.pattern.ensures
+    let w : ℕ = word_of c.args.word.hi c.args.word.lo in
+    let same : pattern_of c.find-found.result ≡ mend w = c.find-found.ensures ∙ ap mend c.word_remainder.ensures ∙ sym (mend_remainder w) in
+    λ k.
+    record {
+      word =
+          record {
+            hi = (c.flip.ensures.hi ∙ ap (λ (m : Mend). mended w m / 2 ^ 64) same) k;
+            lo = (c.flip.ensures.lo ∙ ap (λ (m : Mend). mended w m % 2 ^ 64) same) k;
+          };
+      mend = (c.pattern.ensures ∙ same) k;
+    }

@@ -1,18 +1,17 @@
--- `decoder::find` meets its contract: what is confirmed is what `mend` says. Assumes nothing.
-use mathlib.Core.Path.{sym, ap, ◌∙◌, subst}
-use Rattle.decoder.specs.private.Answer.{Tells, confirmed}
-use Rattle.decoder.proofs.Lookups.{looked_within, found_tells}
+-- `decoder::find` meets its contract: what is confirmed is what `mend` says, and where nothing is, no pattern has the remainder. Assumes nothing.
+use Rattle.std.proofs.Common.{sym, ◌∙◌}
+use Rattle.decoder.specs.private.Answer.{pattern_of}
+use Rattle.decoder.proofs.Lookups.{found_there, found_none}
 use Rattle.decoder.proofs.find.Goals as goal
 
-pub confirm-requires : goal.confirm-requires
-confirm-requires c =
-    let p = c.requires in
-    record {
-      columns = p.columns;
-      first_bound = rw c.located-p.ensures (looked_within p.finds _ p.s_bound);
-    }
+pub returns-then-sum-remainder : goal.returns-then-sum-remainder
+unfolding pattern_of
+returns-then-sum-remainder c =
+    found_there c.args.locator.now.finds _ c.ranges.remainder.fits c.places-places.ensures
+    (sym c.remainder-sum.ensures ∙ c.if-sum-remainder.true)
 
-pub returns : goal.returns
-returns c =
-    let p = c.requires in
-    subst (Tells _) (sym (c.confirm.ensures ∙ ap (confirmed _) c.located-p.ensures)) (found_tells p.finds _ p.s_bound)
+pub returns-else-sum-remainder : goal.returns-else-sum-remainder
+unfolding pattern_of
+returns-else-sum-remainder c =
+    found_none c.args.locator.now.finds _ c.ranges.remainder.fits c.places-places.ensures
+    (λ e. c.if-sum-remainder.false (c.remainder-sum.ensures ∙ e))

@@ -8,7 +8,7 @@ use Rattle.decoder.specs.declared.Decoded.{Decoded}
 
 -- what a word decodes to, in two numbers, and which bits were mended
 unfoldable pub decoded : ℕ → Decoded
-decoded w = record { hi = mended w (mend w) / 2 ^ 64; lo = mended w (mend w) % 2 ^ 64; mend = mend w }
+decoded w = record { word = record { hi = mended w (mend w) / 2 ^ 64; lo = mended w (mend w) % 2 ^ 64 }; mend = mend w }
 
 -- a frame's words as they are passed on
 unfoldable pub mended_frame : List ℕ → List ℕ

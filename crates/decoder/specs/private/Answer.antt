@@ -1,14 +1,13 @@
 -- What the decoder's own functions promise one another about remainders, places and rows. No promise to a caller rests on a definition here.
 -- Assumes nothing.
-use Rattle.std.specs.Prelude.{◌≡◌, ◌⊎◌, cond, List, ℕ, ◌+◌, ◌*◌, ◌/◌, ◌%◌, ◌^◌, ◌<◌, eqb, ltb, get_or, set}
+use Rattle.std.specs.Prelude.{◌≡◌, ◌⊎◌, cond, Option, Some, None, List, ℕ, ◌+◌, ◌*◌, ◌/◌, ◌%◌, ◌^◌, ◌<◌, eqb, ltb, get_or, set}
 use Rattle.std.specs.Int.Bits.{bit_xor}
 use Rattle.bits.specs.definitions.Bits.{tabulate}
 use Rattle.bits.specs.definitions.Words.{row_of}
 use Rattle.bch.specs.definitions.Code.{remainder}
-use Rattle.decoder_tables.specs.private.Tables.{single, column, rising_of}
+use Rattle.decoder_tables.specs.private.Tables.{column, rising_of}
 use Rattle.decoder_tables.specs.declared.Pair.{Pair}
 use Rattle.decoder.specs.definitions.Mend.{mend, mended, flag_of}
-use Rattle.decoder.specs.declared.Found.{Found}
 use Rattle.decoder.specs.declared.Mend.{Mend}
 use Rattle.decoder.specs.declared.Mend.TheVariants.{Clean, One, Two, Flagged}
 
@@ -31,40 +30,28 @@ abbrev pub Answers : ℕ → Mend → Type 0
 Answers s m = (Pattern m × (remainder_of m ≡ s)) ⊎ ((m ≡ Flagged) × ((p : Mend) → Pattern p → remainder_of p ≡ s → ⊥))
 
 -- the places of the bits that are flipped, 127 where there is none
-unfoldable pub places_of : Mend → Pair
-places_of Clean = record { first = 127; second = 127 }
-places_of (One i) = record { first = i; second = 127 }
-places_of (Two i j) = record { first = i; second = j }
-places_of Flagged = record { first = 127; second = 127 }
+unfoldable pub places_of : Mend → ℕ × ℕ
+places_of Clean = (127, 127)
+places_of (One i) = (i, 127)
+places_of (Two i j) = (i, j)
+places_of Flagged = (127, 127)
 
 -- 1 for the place of a bit, else 0
-unfoldable pub count_of : ℕ → ℕ
+abbrev pub count_of : ℕ → ℕ
 count_of i = cond (ltb i 126) 1 0
 
--- two places are believed only if their bits have the remainder s; then the flag counts them
-unfoldable pub confirmed : ℕ → Pair → Found
-confirmed s p =
-    cond (eqb (bit_xor (column p.first) (column p.second)) s)
-    (record { places = p; flag = count_of p.first + count_of p.second })
-    (record { places = record { first = 127; second = 127 }; flag = 3 })
+-- the pattern at two places in rising order
+unfoldable pub pattern_rising : ℕ × ℕ → Mend
+pattern_rising p = cond (ltb p.1 126) (Two p.0 p.1) (cond (ltb p.0 126) (One p.0) Clean)
 
--- what was found is m: its places, in any order, and its flag
-pub record Tells (m : Mend) (f : Found) : Type 0 where
-  pub places : rising_of f.places ≡ places_of m
-  pub flag : f.flag ≡ flag_of m
-  pub within : (f.places.first < 128) × (f.places.second < 128)
+-- the pattern at two places in any order
+unfoldable pub pattern_at : ℕ × ℕ → Mend
+pattern_at p = pattern_rising (rising_of p)
 
 -- the pattern that was found
-unfoldable pub pattern_of : Found → Mend
-pattern_of f =
-    cond (eqb f.flag 0) Clean
-    (cond (eqb f.flag 1) (One (rising_of f.places).first)
-    (cond (eqb f.flag 2) (Two (rising_of f.places).first (rising_of f.places).second)
-    Flagged))
-
--- the word with the bits at two places flipped
-abbrev pub flipped_at : ℕ → Pair → ℕ
-flipped_at w p = bit_xor w (bit_xor (single p.first) (single p.second))
+unfoldable pub pattern_of : Option Pair → Mend
+pattern_of (Some p) = pattern_at (p.first, p.second)
+pattern_of None = Flagged
 
 -- word i of a row of numbers above whose words nothing stands
 unfoldable pub plain_at : List ℕ → ℕ → ℕ

@@ -49,8 +49,8 @@ abbrev pub WordCalls : Type 0
 WordCalls =
     (hi lo : ℕ) → lo < 2 ^ 64
     → (word_of hi lo < 2 ^ 126) × (information_of (word_of hi lo) < 2 ^ 110)
-    × ((decoded (word_of hi lo)).hi < 2 ^ 62) × ((decoded (word_of hi lo)).lo < 2 ^ 64)
-    × (word_of (decoded (word_of hi lo)).hi (decoded (word_of hi lo)).lo ≡ mended (word_of hi lo) (mend (word_of hi lo)))
+    × ((decoded (word_of hi lo)).word.hi < 2 ^ 62) × ((decoded (word_of hi lo)).word.lo < 2 ^ 64)
+    × (word_of (decoded (word_of hi lo)).word.hi (decoded (word_of hi lo)).word.lo ≡ mended (word_of hi lo) (mend (word_of hi lo)))
 
 -- and so it is with each word of a frame and its flag byte
 abbrev pub FrameCalls : Type 0
