@@ -1,13 +1,13 @@
 -- What the look-ups lead to, confirmed, is what `mend` says; and a word with those bits flipped is the word that is passed on.
 -- Assumes nothing.
-use mathlib.Core.Path.{◌≡◌, refl, sym, ap, ap₂, ◌∙◌}
-use mathlib.Core.Bool.{Bool, true, false, cond}
+use mathlib.Core.Path.{◌≡◌, refl, sym, ap, ◌∙◌}
+use mathlib.Core.Bool.{cond}
 use mathlib.Core.Logic.{◌≢◌, inl, inr}
 use Prim.Native.Nat.{ℕ, ◌+◌, ◌-◌, ◌^◌, ◌<◌, ◌≤◌}
 use native.Mathlib.Nat.{add_comm}
 use native.Mathlib.Omega.{arith}
 use native.Mathlib.Decide.{dec_lt}
-use lib.Dec.{eqb, ltb, lit<}
+use lib.Dec.{ltb, lit<}
 use lib.Pow.{pow-lt}
 use lib.Bits.{bit_xor, xor_comm, xor_lt, xor_zero_r}
 use Rattle.std.specs.Prelude.{min, max}
@@ -21,7 +21,7 @@ use Rattle.decoder.specs.definitions.Mend.{mend, mended, flag_of}
 use Rattle.decoder.specs.private.Answer.{Pattern, remainder_of, Answers, places_of, count_of, pattern_rising, pattern_at}
 use Rattle.decoder.specs.declared.Mend.{Mend}
 use Rattle.decoder.specs.declared.Mend.TheVariants.{Clean, One, Two, Flagged}
-use Rattle.decoder.proofs.Patterns.{mask, mended_mask, remainder_mask, single_bit, finds_places, answers_unique, mend_own}
+use Rattle.decoder.proofs.Patterns.{mask, mended_mask, remainder_mask, finds_places, answers_unique, mend_own}
 use Rattle.decoder.proofs.Distance.{light_pattern}
 
 -- ---- two places, in any order
@@ -43,17 +43,44 @@ in_order f h (x, y) = go (dec_lt x y)
     go (yes l) = let a : min x y ≡ x = omega arith in let b : max x y ≡ y = omega arith in rw (a, b) refl
     go (no l) = let a : min x y ≡ y = omega arith in let b : max x y ≡ x = omega arith in rw (a, b) (h y x)
 
--- a pattern's places are its bits, and as many as its flag says
-pattern_bits : (m : Mend) → Pattern m → (both (places_of m) ≡ mask m) × (counted (places_of m) ≡ flag_of m)
-unfolding Pattern places_of mask flag_of single
-pattern_bits Clean P = (refl, refl)
-pattern_bits (One i) h = (xor_zero_r (single i) ∙ single_bit i h, rw (lt-ltb i 126 h))
-pattern_bits (Two i j) (l, h) =
-    let k : i < 126 = omega arith in
-    (ap₂ bit_xor (single_bit i k) (single_bit j h), rw (lt-ltb i 126 k, lt-ltb j 126 h))
-pattern_bits Flagged P = absurd P
+-- ---- the pattern at two places, whatever they are
 
--- two places that in rising order are a pattern's are that pattern
+module _ {i j : ℕ} (rises : i ≤ j) where
+  flag_rising : counted (i, j) ≡ flag_of (pattern_rising (i, j))
+  unfolding pattern_rising flag_of
+  flag_rising = go (dec_lt i 126) (dec_lt j 126)
+    where
+      go : Dec (i < 126) → Dec (j < 126) → counted (i, j) ≡ flag_of (pattern_rising (i, j))
+      go (yes a) (yes b) = rw (lt-ltb i 126 a, lt-ltb j 126 b) refl
+      go (yes a) (no b) = rw (lt-ltb i 126 a, le-ltb j 126 (omega arith)) refl
+      go (no a) (yes b) = absurd (omega arith)
+      go (no a) (no b) = rw (le-ltb i 126 (omega arith), le-ltb j 126 (omega arith)) refl
+
+  bits_rising : both (i, j) ≡ mask (pattern_rising (i, j))
+  unfolding pattern_rising mask single
+  bits_rising = go (dec_lt i 126) (dec_lt j 126)
+    where
+      go : Dec (i < 126) → Dec (j < 126) → both (i, j) ≡ mask (pattern_rising (i, j))
+      go (yes a) (yes b) = rw (lt-ltb i 126 a, lt-ltb j 126 b) refl
+      go (yes a) (no b) = rw (lt-ltb i 126 a, le-ltb j 126 (omega arith)) (xor_zero_r (2 ^ (125 - i)))
+      go (no a) (yes b) = absurd (omega arith)
+      go (no a) (no b) = rw (le-ltb i 126 (omega arith), le-ltb j 126 (omega arith)) refl
+
+-- its flag counts the bits
+pub flag_there : (p : ℕ × ℕ) → counted p ≡ flag_of (pattern_at p)
+unfolding pattern_at rising_of
+flag_there p = sym (in_order counted (λ x y. add_comm (count_of x) (count_of y)) p) ∙ flag_rising (omega arith)
+
+-- they are its bits
+bits_there : (p : ℕ × ℕ) → both p ≡ mask (pattern_at p)
+unfolding pattern_at rising_of
+bits_there p = sym (in_order both (λ x y. xor_comm (single x) (single y)) p) ∙ bits_rising (omega arith)
+
+-- and a word with these flipped is the word with the pattern's flipped
+pub flipped_there : (w : ℕ) (p : ℕ × ℕ) → flipped_at w p.0 p.1 ≡ mended w (pattern_at p)
+flipped_there w p = ap (bit_xor w) (bits_there p) ∙ sym (mended_mask w (pattern_at p))
+
+-- the pattern at two places that in rising order are a pattern's is that one
 pattern_there : (m : Mend) → Pattern m → (p : ℕ × ℕ) → rising_of p ≡ places_of m → pattern_at p ≡ m
 unfolding pattern_at pattern_rising Pattern places_of
 pattern_there m P p e = ap pattern_rising e ∙ own m P
@@ -102,41 +129,6 @@ module _ {a : Arrays} (F : Finds a) (s : ℕ) (h : s < 65536) {p : ℕ × ℕ} (
       go (inl (P, c)) =
           absurd
           (n
-          (sum_is ∙ ap (remainder 126)
-          (sym (in_order both (λ x y. xor_comm (single x) (single y)) p) ∙ ap both (leads (mend s) P c) ∙ (pattern_bits (mend s) P).0)
+          (sum_is ∙ ap (remainder 126) (bits_there p ∙ ap mask (pattern_there (mend s) P p (leads (mend s) P c)))
           ∙ sym (remainder_mask (mend s) P) ∙ c))
       go (inr (f, none)) = sym f
-
--- ---- the pattern at two places, whatever they are
-
-module _ {i j : ℕ} (rises : i ≤ j) where
-  flag_rising : counted (i, j) ≡ flag_of (pattern_rising (i, j))
-  unfolding pattern_rising flag_of
-  flag_rising = go (dec_lt i 126) (dec_lt j 126)
-    where
-      go : Dec (i < 126) → Dec (j < 126) → counted (i, j) ≡ flag_of (pattern_rising (i, j))
-      go (yes a) (yes b) = rw (lt-ltb i 126 a, lt-ltb j 126 b) refl
-      go (yes a) (no b) = rw (lt-ltb i 126 a, le-ltb j 126 (omega arith)) refl
-      go (no a) (yes b) = absurd (omega arith)
-      go (no a) (no b) = rw (le-ltb i 126 (omega arith), le-ltb j 126 (omega arith)) refl
-
-  bits_rising : both (i, j) ≡ mask (pattern_rising (i, j))
-  unfolding pattern_rising mask single
-  bits_rising = go (dec_lt i 126) (dec_lt j 126)
-    where
-      go : Dec (i < 126) → Dec (j < 126) → both (i, j) ≡ mask (pattern_rising (i, j))
-      go (yes a) (yes b) = rw (lt-ltb i 126 a, lt-ltb j 126 b) refl
-      go (yes a) (no b) = rw (lt-ltb i 126 a, le-ltb j 126 (omega arith)) (xor_zero_r (2 ^ (125 - i)))
-      go (no a) (yes b) = absurd (omega arith)
-      go (no a) (no b) = rw (le-ltb i 126 (omega arith), le-ltb j 126 (omega arith)) refl
-
--- its flag counts the bits
-pub flag_there : (p : ℕ × ℕ) → counted p ≡ flag_of (pattern_at p)
-unfolding pattern_at rising_of
-flag_there p = sym (in_order counted (λ x y. add_comm (count_of x) (count_of y)) p) ∙ flag_rising (omega arith)
-
--- and a word with these flipped is the word with the pattern's flipped
-pub flipped_there : (w : ℕ) (p : ℕ × ℕ) → flipped_at w p.0 p.1 ≡ mended w (pattern_at p)
-unfolding pattern_at rising_of
-flipped_there w p =
-    ap (bit_xor w) (sym (in_order both (λ x y. xor_comm (single x) (single y)) p) ∙ bits_rising (omega arith)) ∙ sym (mended_mask w (pattern_at p))

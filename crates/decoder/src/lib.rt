@@ -43,7 +43,7 @@ impl From<Mend> for u8 {
     }
 }
 
-// The same, by name.
+// The flag byte of what decoding flipped.
 pub fn flag(m: Mend) -> u8
     ensures { result ≡ flag_of m }
 {
@@ -67,7 +67,7 @@ fn count(places: Pair) -> u8
     u8::from(places.first < 126) + u8::from(places.second < 126)
 }
 
-// The flag byte of what was found.
+// The flag byte of what was found, with no order of its places in between.
 fn flag_found(found: Option<Pair>) -> u8
     ensures { result ≡ flag_of (pattern_of found) }
 {
@@ -115,7 +115,7 @@ pub fn decode(word: Word) -> Decoded
         hi: word.hi % bits::TWO_62,
         lo: word.lo,
     };
-    let found = find(&locator, bch::word_remainder(word.hi, word.lo));
+    let found = find(&locator, bch::word_remainder(word));
     Decoded {
         word: flip(&locator, received, found),
         mend: pattern(found),

@@ -1,5 +1,5 @@
 -- `decoder::are_clean` meets its contract: what joins all numbers is 0 exactly where each of them is. Assumes nothing.
-use Rattle.std.proofs.Common.{◌≡◌, ℕ, sym, ◌∙◌, rules}
+use Rattle.std.proofs.Common.{◌≡◌, sym, ◌∙◌, rules}
 use Rattle.std.specs.Prelude.{fold, bit_or}
 use Rattle.decoder.proofs.Rows.{joined_zero, zeros_joined}
 use Rattle.decoder.proofs.are_clean.Goals as goal

@@ -1,5 +1,5 @@
 -- `decoder::flip` meets its contract: a word with the bits at two places flipped is that with the pattern's flipped. Assumes nothing.
-use Rattle.std.proofs.Common.{◌≡◌, ℕ, ◌+◌, ◌*◌, ◌/◌, ◌%◌, ◌^◌, ap, sym, ◌∙◌, rules}
+use Rattle.std.proofs.Common.{ℕ, ◌+◌, ◌*◌, ◌/◌, ◌%◌, ◌^◌, ap, sym, ◌∙◌, rules}
 use lib.Arith.{digits_div, digits_mod}
 use Rattle.bits.proofs.Cases.{at_case}
 use Rattle.decoder.specs.definitions.Mend.{mended}

@@ -34,9 +34,10 @@ loop-group-preserved c =
 
 pub returns-then-are_clean : goal.returns-then-are_clean
 returns-then-are_clean c =
+    let start = mending_start (search rules) (search rules) in
     let long : length c.args.rest.now ≡ 384 = search rules in
     let clean : (j : ℕ) → j < 384 → get_or c.args.rest.now (0 + j) 0 ≡ 0 =
     λ j h. let e : 0 + j ≡ j = omega arith in rw e (c.are_clean.ensures.0 (search rules) j (omega arith)) in
     mending_done
-    (mending_clean (mending_start (search rules) (search rules)) c.requires.has_remainders (search rules) (zeros_at 384 c.requires.clear) 384 (le_refl 384) clean)
+    (mending_clean start c.requires.has_remainders (search rules) (zeros_at 384 c.requires.clear) 384 (le_refl 384) clean)
     (le_refl 384)

@@ -1,6 +1,6 @@
 -- What the decoder's own functions promise one another about remainders, places and rows. No promise to a caller rests on a definition here.
 -- Assumes nothing.
-use Rattle.std.specs.Prelude.{◌≡◌, ◌⊎◌, cond, Option, Some, None, List, ℕ, ◌+◌, ◌*◌, ◌/◌, ◌%◌, ◌^◌, ◌<◌, eqb, ltb, get_or, set}
+use Rattle.std.specs.Prelude.{◌≡◌, ◌⊎◌, cond, Option, Some, None, List, ℕ, ◌+◌, ◌*◌, ◌/◌, ◌%◌, ◌^◌, ◌<◌, ltb, get_or, set}
 use Rattle.std.specs.Int.Bits.{bit_xor}
 use Rattle.bits.specs.definitions.Bits.{tabulate}
 use Rattle.bits.specs.definitions.Words.{row_of}

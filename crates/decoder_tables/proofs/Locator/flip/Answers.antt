@@ -1,5 +1,5 @@
 -- `decoder_tables::Locator::flip` meets its contract: a bit at a place is flipped in a word's two numbers, and then one at another. Assumes nothing.
-use Rattle.std.proofs.Common.{◌≡◌, ℕ, ◌+◌, ◌*◌, ◌/◌, ◌%◌, ◌^◌, ◌<◌, List, get_or, sym, ap, ◌∙◌, arith, rules}
+use Rattle.std.proofs.Common.{◌≡◌, ℕ, ◌+◌, ◌*◌, ◌/◌, ◌%◌, ◌^◌, ◌<◌, List, get_or, sym, ap, ◌∙◌, rules}
 use Rattle.std.specs.Int.Bits.{bit_xor}
 use lib.Arith.{digits_div, digits_mod}
 use lib.Bits.{xor_block, xor_lt}
