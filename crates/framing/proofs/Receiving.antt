@@ -3,7 +3,8 @@
 use mathlib.Core.Path.{◌≡◌, refl, sym, ap, ◌∙◌}
 use mathlib.Core.Bool.{cond}
 use mathlib.Core.List.{List}
-use Prim.Native.Nat.{ℕ, suc}
+use Prim.Native.Nat.{ℕ, suc, ◌<◌}
+use native.Mathlib.Omega.{arith}
 use lib.ListN.{length}
 use borrow.Author.Tests.{ne_eqb}
 use Rattle.bits.proofs.Tabulate.{length_tabulate}
@@ -94,29 +95,32 @@ words_done f w g w' g' e p q = record { number = sym e; words = p ∙ sym (writt
 pub refused : (ex : Places) (f s o g : List ℕ) (r : ℕ) → receive_number f s o g ≡ suc r → Receives ex f s o g (suc r) s o g
 refused ex f s o g r e = record { number = sym e; store = sym (left _ r _ s e); output = sym (left _ r _ o e); flags = sym (left _ r _ g e) }
 
--- with the right lengths, what receiving the words answered decides
-module _ (ex : Places) (f s o g : List ℕ) {w t : List ℕ} {number : ℕ} {w' t' : List ℕ} (R : ReceivesWords f w t number w' t')
+-- with the right lengths, what receiving the words answered decides; the flags are lent to it
+module _ (ex : Places) (f s o g : List ℕ) {w : List ℕ} {number : ℕ} {w' g' : List ℕ} (R : ReceivesWords f w g number w' g')
     (hf : length f ≡ 6144) (hs : length s ≡ 2880) (ho : length o ≡ 5280) (hg : length g ≡ 384) where
   same_number : number ≡ receive_number f s o g
   same_number = R.number ∙ words_lock f hf ∙ sym (all_lengths f s o g hf hs ho hg)
 
-  pub without_lock : (number ≡ 0 → ⊥) → Receives ex f s o g number s o g
-  without_lock n =
-      let kept : (new old : List ℕ) → old ≡ after (receive_number f s o g) new old = λ new old. rw (sym same_number, ne_eqb number 0 n) refl in
-      record { number = same_number; store = kept _ s; output = kept _ o; flags = kept _ g }
+  flags_alike : g' ≡ after (receive_number f s o g) (received_flags f) g
+  flags_alike = R.flags ∙ ap (λ (n : ℕ). after n (received_flags f) g) (sym R.number ∙ same_number)
 
-  pub received : number ≡ 0 → {s' o' g' : List ℕ} → s' ≡ deinterleaved_store (word_lanes w') s → o' ≡ deinterleaved_frame ex (word_lanes w') s → g' ≡ t'
-      → Receives ex f s o g 0 s' o' g'
+  pub without_lock : {told : ℕ} → told ≡ number → 0 < number → Receives ex f s o g told s o g'
+  without_lock e n =
+      let kept : (new old : List ℕ) → old ≡ after (receive_number f s o g) new old
+      = λ new old. rw (sym same_number, ne_eqb number 0 (λ z. absurd (omega arith))) refl in
+      record { number = e ∙ same_number; store = kept _ s; output = kept _ o; flags = flags_alike }
+
+  pub received : {told : ℕ} → told ≡ 0 → number ≡ 0 → {s' o' : List ℕ} → s' ≡ deinterleaved_store (word_lanes w') s
+      → o' ≡ deinterleaved_frame ex (word_lanes w') s → Receives ex f s o g told s' o' g'
   unfolding brought_lanes
-  received z {s'} {o'} {g'} p q h =
+  received t z {s'} {o'} p q =
       let e : receive_number f s o g ≡ 0 = sym same_number ∙ z in
-      let none : words_number f ≡ 0 = sym R.number ∙ z in
-      let words : w' ≡ received_words f = R.words ∙ written _ _ w none in
+      let words : w' ≡ received_words f = R.words ∙ written _ _ w (sym R.number ∙ z) in
       record {
-        number = sym e;
+        number = t ∙ sym e;
         store = p ∙ ap (λ (x : List ℕ). deinterleaved_store (word_lanes x) s) words ∙ sym (written _ _ s e);
         output = q ∙ ap (λ (x : List ℕ). deinterleaved_frame ex (word_lanes x) s) words ∙ sym (written _ _ o e);
-        flags = h ∙ R.flags ∙ written _ _ t none ∙ sym (written _ _ g e);
+        flags = flags_alike;
       }
 
 -- and the other way: a call that answered 0 is done

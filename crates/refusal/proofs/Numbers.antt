@@ -1,10 +1,11 @@
 -- The numbers tell refusals apart from one another, and from a call that was done.
 -- Assumes nothing.
 use mathlib.Core.Path.{◌≡◌, refl, sym, ap, ◌∙◌}
-use Rattle.std.proofs.Common.{ℕ, nat_eq, Result, Ok, Err, if◌then◌else◌}
+use native.Mathlib.Omega.{arith}
+use Rattle.std.proofs.Common.{ℕ, ◌<◌, nat_eq, Result, Ok, Err, if◌then◌else◌}
 use Rattle.refusal.specs.declared.Refusal.{Refusal}
 use Rattle.refusal.specs.declared.Refusal.TheVariants as refusal
-use Rattle.refusal.specs.definitions.Refusal.{answer_of}
+use Rattle.refusal.specs.definitions.Refusal.{number_of, answer_of}
 
 -- the answer of which this is the number
 answer_by : ℕ → Result Unit Refusal
@@ -48,3 +49,21 @@ by_number (Err refusal.TooMany) = refl
 -- answers of one number are one answer
 pub answer_injective : {a b : Result Unit Refusal} → answer_of a ≡ answer_of b → a ≡ b
 answer_injective {a} {b} e = sym (by_number a) ∙ ap answer_by e ∙ by_number b
+
+-- no refusal has the number of a call that was done
+pub positive : (refusal : Refusal) → 0 < number_of refusal
+positive refusal.Input = omega arith
+positive refusal.Store = omega arith
+positive refusal.Output = omega arith
+positive refusal.Flags = omega arith
+positive refusal.NoLock = omega arith
+positive refusal.CutShort = omega arith
+positive refusal.Length = omega arith
+positive refusal.Version = omega arith
+positive refusal.Kind = omega arith
+positive refusal.Late = omega arith
+positive refusal.Limit = omega arith
+positive refusal.Tallies = omega arith
+positive refusal.ShortRun = omega arith
+positive refusal.MoreThanOne = omega arith
+positive refusal.TooMany = omega arith

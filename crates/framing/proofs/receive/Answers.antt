@@ -1,40 +1,61 @@
 -- `framing::receive` meets its contract: a refusal from each test, and the outcome where all passed. Assumes nothing.
+use Rattle.std.proofs.Common.{rules, ◌≡◌, ◌<◌, length}
+use mathlib.Core.Logic.{◌≢◌}
+use Rattle.refusal.specs.definitions.Refusal.{answer_of}
+use Rattle.refusal.proofs.Numbers.{positive}
 use Rattle.framing.specs.definitions.Places.{base}
-use Rattle.framing.proofs.Receiving.{short_frame, short_store, short_lanes, short_flags, refused, without_lock, received}
+use Rattle.framing.specs.definitions.Receive.{receive_number}
+use Rattle.framing.proofs.Receiving.{short_flags, refused, without_lock, received}
 use Rattle.framing.proofs.receive.Goals as goal
 
-pub returns-then-input-ne6144 : goal.returns-then-input-ne6144
-returns-then-input-ne6144 c =
-    let x = c.args in
-    refused base x.input.now x.store.now x.output.now x.flags.now 0 (short_frame _ _ _ _ c.if-input-ne6144.true)
+pub returns-in_err-frame : goal.returns-in_err-frame
+unfolding receive_number
+returns-in_err-frame c = search rules
 
-pub returns-then-store-ne2880 : goal.returns-then-store-ne2880
-returns-then-store-ne2880 c =
-    let x = c.args in
-    refused base x.input.now x.store.now x.output.now x.flags.now 1 (short_store _ _ _ _ c.if-input-ne6144.false c.if-store-ne2880.true)
+pub returns-in_err-store : goal.returns-in_err-store
+unfolding receive_number
+returns-in_err-store c = search rules
 
-pub returns-then-output-ne5280 : goal.returns-then-output-ne5280
-returns-then-output-ne5280 c =
-    let x = c.args in
-    refused base x.input.now x.store.now x.output.now x.flags.now 2
-    (short_lanes _ _ _ _ c.if-input-ne6144.false c.if-store-ne2880.false c.if-output-ne5280.true)
+pub returns-in_err-lanes : goal.returns-in_err-lanes
+unfolding receive_number
+returns-in_err-lanes c =
+    let frame = rw c.in_ok-frame.ensures.ok_part at c.as_array.ensures.cases in
+    let store = rw c.in_ok-store.ensures.ok_part at c.as_mut_array.ensures.cases in
+    rw store.same (search rules)
 
-pub returns-then-flags-ne384 : goal.returns-then-flags-ne384
-returns-then-flags-ne384 c =
+pub returns-in_err-flags : goal.returns-in_err-flags
+returns-in_err-flags c =
     let x = c.args in
-    refused base x.input.now x.store.now x.output.now x.flags.now 3
-    (short_flags _ _ _ _ c.if-input-ne6144.false c.if-store-ne2880.false c.if-output-ne5280.false c.if-flags-ne384.true)
+    let frame = rw c.in_ok-frame.ensures.ok_part at c.as_array.ensures.cases in
+    let store = rw c.in_ok-store.ensures.ok_part at c.as_mut_array.ensures.cases in
+    let lanes = rw c.in_ok-lanes.ensures.ok_part at c.as_mut_array-2.ensures.cases in
+    let said : answer_of c.from_residual-in_err-flags.result ≡ 4 = search rules in
+    let short : length x.flags.now ≢ 384 = search rules in
+    rw (store.same, lanes.same, said)
+    (refused base x.input.now x.store.now x.output.now x.flags.now 3 (short_flags _ _ _ _ frame.long store.long lanes.long short))
 
-pub returns-then-number-ne0 : goal.returns-then-number-ne0
-returns-then-number-ne0 c =
+pub returns-in_err-receive_words : goal.returns-in_err-receive_words
+returns-in_err-receive_words c =
+    let said : answer_of c.from_residual-in_err-receive_words.result ≡ answer_of c.receive_words.result = search rules in
     let x = c.args in
-    without_lock base x.input.now x.store.now x.output.now x.flags.now c.receive_words-number.ensures
-    c.if-input-ne6144.false c.if-store-ne2880.false c.if-output-ne5280.false c.if-flags-ne384.false c.if-number-ne0.true
+    let frame = rw c.in_ok-frame.ensures.ok_part at c.as_array.ensures.cases in
+    let store = rw c.in_ok-store.ensures.ok_part at c.as_mut_array.ensures.cases in
+    let lanes = rw c.in_ok-lanes.ensures.ok_part at c.as_mut_array-2.ensures.cases in
+    let flags = rw c.in_ok-flags.ensures.ok_part at c.as_mut_array-3.ensures.cases in
+    let words = rw (frame.same, flags.same) at c.receive_words.ensures in
+    let refused : 0 < answer_of c.receive_words.result = rw c.in_err-receive_words.was (positive _) in
+    rw (store.same, lanes.same)
+    (without_lock base x.input.now x.store.now x.output.now x.flags.now words frame.long store.long lanes.long flags.long said refused)
 
 pub returns : goal.returns
 returns c =
     let x = c.args in
-    let out = c.lanes_out.ensures in
-    received base x.input.now x.store.now x.output.now x.flags.now c.receive_words-number.ensures
-    c.if-input-ne6144.false c.if-store-ne2880.false c.if-output-ne5280.false c.if-flags-ne384.false
-    c.if-number-ne0.false out.1 out.0 out.2
+    let frame = rw c.in_ok-frame.ensures.ok_part at c.as_array.ensures.cases in
+    let store = rw c.in_ok-store.ensures.ok_part at c.as_mut_array.ensures.cases in
+    let lanes = rw c.in_ok-lanes.ensures.ok_part at c.as_mut_array-2.ensures.cases in
+    let flags = rw c.in_ok-flags.ensures.ok_part at c.as_mut_array-3.ensures.cases in
+    let words = rw (frame.same, flags.same) at c.receive_words.ensures in
+    let said : answer_of c.lanes_out.result ≡ 0 = search rules in
+    let whole : answer_of c.receive_words.result ≡ 0 = search rules in
+    let out = rw store.same at c.lanes_out.ensures in
+    received base x.input.now x.store.now x.output.now x.flags.now words frame.long store.long lanes.long flags.long said whole out.store_after out.lanes_after

@@ -1,28 +1,23 @@
 -- `framing::send` meets its contract: a refusal from each test, and the outcome where all passed. Assumes nothing.
-use Rattle.framing.specs.definitions.Places.{base}
-use Rattle.framing.proofs.Sending.{short_lanes, short_store, short_frame, all_lengths, refused, sent}
+use Rattle.std.proofs.Common.{rules}
+use Rattle.framing.specs.definitions.Send.{send_number}
 use Rattle.framing.proofs.send.Goals as goal
 
-pub returns-then-input-ne5280 : goal.returns-then-input-ne5280
-returns-then-input-ne5280 c =
-    let x = c.args in
-    refused base x.input.now x.store.now x.output.now 0 (short_lanes _ _ _ c.if-input-ne5280.true)
+pub returns-in_err-lanes : goal.returns-in_err-lanes
+unfolding send_number
+returns-in_err-lanes c = search rules
 
-pub returns-then-store-ne2880 : goal.returns-then-store-ne2880
-returns-then-store-ne2880 c =
-    let x = c.args in
-    refused base x.input.now x.store.now x.output.now 1 (short_store _ _ _ c.if-input-ne5280.false c.if-store-ne2880.true)
+pub returns-in_err-store : goal.returns-in_err-store
+unfolding send_number
+returns-in_err-store c = search rules
 
-pub returns-then-output-ne6144 : goal.returns-then-output-ne6144
-returns-then-output-ne6144 c =
-    let x = c.args in
-    refused base x.input.now x.store.now x.output.now 2 (short_frame _ _ _ c.if-input-ne5280.false c.if-store-ne2880.false c.if-output-ne6144.true)
+pub returns-in_err-frame : goal.returns-in_err-frame
+unfolding send_number
+returns-in_err-frame c =
+    let lanes = rw c.in_ok-lanes.ensures.ok_part at c.as_array.ensures.cases in
+    let store = rw c.in_ok-store.ensures.ok_part at c.as_mut_array.ensures.cases in
+    rw store.same (search rules)
 
 pub returns : goal.returns
-returns c =
-    let x = c.args in
-    let done = c.send_slices.ensures in
-    sent base x.input.now x.store.now x.output.now _ _
-    (all_lengths _ _ _ c.if-input-ne5280.false
-    c.if-store-ne2880.false c.if-output-ne6144.false)
-    done.store_after done.output_after
+unfolding send_number
+returns c = search rules
