@@ -1,20 +1,40 @@
--- Pilot i of a string: it is met, it is missing, or another symbol stands in its place. And lock: what it depends on, and when it is decided.
+-- Pilot i of a string: it is met, or it is missing. And lock: what it depends on, and when it is decided.
 -- Assumes nothing.
-use mathlib.Core.Path.{◌≡◌, refl, sym, ap, ◌∙◌}
-use mathlib.Core.Bool.{Bool, true, false, not, ◌&&◌}
+use mathlib.Core.Path.{◌≡◌, refl, sym, ap, ap₂, ◌∙◌}
+use mathlib.Core.Bool.{Bool, true, false, cond, not, ◌&&◌}
+use Rattle.std.specs.Int.{from_bool}
 use mathlib.Core.List.{List}
 use Prim.Native.Nat.{ℕ, ◌+◌, ◌*◌, ◌-◌, ◌/◌, ◌%◌, ◌<◌, ◌≤◌}
 use native.Mathlib.Nat.{zero-add}
 use native.Mathlib.Omega.{arith}
 use lib.Dec.{eqb, ltb}
-use lib.ListN.{length, get_or}
+use lib.ListN.{length, get_or, take, drop, length-take, length-drop}
+use lib.Seq.{get_or-take, get_or-drop, take_all}
+use Rattle.std.specs.Array.{IsFirstChunk}
+use Rattle.std.specs.List.{slice_range}
+use Rattle.std.proofs.lemmas.Bool.Decides.{nat_tests}
 use borrow.Author.Tests.{le-ltb, lt-ltb, eq-eqb, ne_eqb}
 use Rattle.pilots.specs.definitions.Table5.{pilots}
-use Rattle.pilots.specs.definitions.Pilots.{met, wrong_pilots, locks, lock_limit, offsets, first_lock, column_frame, locked_column}
+use Rattle.pilots.specs.definitions.Pilots.{met, wrong_pilots, locks, lock_limit, column_frame, locked_column}
 use Rattle.bits.specs.definitions.Bits.{tabulate, count}
-use Rattle.bits.proofs.Count.{count_cong, count_append, count_none}
-use Rattle.bits.proofs.Least.{least_is}
+use Rattle.bits.proofs.Count.{count_cong, count_append, count_none, count_both}
 use Rattle.bits.proofs.Tabulate.{length_tabulate, get_d_tabulate, tabulate_cong}
+
+-- a test as a number
+pub as_number : (b : Bool) → from_bool b ≡ cond b 1 0
+as_number true = refl
+as_number false = refl
+
+pub at_most_one : (b : Bool) → from_bool b ≤ 1
+at_most_one b = rw (as_number b) (one b)
+  where
+    one : (b : Bool) → cond b 1 0 ≤ 1
+    one true = omega arith
+    one false = omega arith
+
+pub pilots_length : length pilots ≡ 96
+unfolding pilots
+pilots_length = refl
 
 module _ (s : List ℕ) (o i : ℕ) where
   pub met_there : o + 64 * i < length s → get_or s (o + 64 * i) 0 ≡ get_or pilots i 0 → met s o i ≡ true
@@ -24,10 +44,6 @@ module _ (s : List ℕ) (o i : ℕ) where
   pub met_missing : length s ≤ o + 64 * i → met s o i ≡ false
   unfolding met
   met_missing h = rw (le-ltb (o + 64 * i) (length s) h)
-
-  pub met_other : o + 64 * i < length s → (get_or s (o + 64 * i) 0 ≡ get_or pilots i 0 → ⊥) → met s o i ≡ false
-  unfolding met
-  met_other h e = rw (lt-ltb (o + 64 * i) (length s) h, ne_eqb (get_or s (o + 64 * i) 0) (get_or pilots i 0) e)
 
   -- where its symbol is there, the test is of the symbol alone
   pub met_is : o + 64 * i < length s → met s o i ≡ eqb (get_or s (o + 64 * i) 0) (get_or pilots i 0)
@@ -56,11 +72,40 @@ module _ (s : List ℕ) (o : ℕ) where
   unfolding locks wrong_pilots
   lock h = lt-ltb _ lock_limit h
 
--- ---- the first offset at which a frame locks
-module _ (s : List ℕ) where
-  pub first_lock_is : (o : ℕ) → o ≤ offsets s → (o < offsets s → locks s o ≡ true) → ((i : ℕ) → i < o → locks s i ≡ false) → o ≡ first_lock s
-  unfolding first_lock
-  first_lock_is o h passes fails = sym (least_is (locks s) (offsets s) o h passes fails)
+-- ---- from an offset on, or what stands there by itself
+bounds : (o m n : ℕ) → ltb (0 + m) (n - o) ≡ ltb (o + m) n
+bounds o m n = grind (arith, nat_tests)
+
+module _ (s : List ℕ) (o : ℕ) where
+  met_drop : (i : ℕ) → met (drop o s) 0 i ≡ met s o i
+  unfolding met
+  met_drop i = ap₂ (λ (x y : Bool). x && y) there same
+    where
+      there : ltb (0 + 64 * i) (length (drop o s)) ≡ ltb (o + 64 * i) (length s)
+      there = rw (length-drop o s) (bounds o (64 * i) (length s))
+
+      same : eqb (get_or (drop o s) (0 + 64 * i) 0) (get_or pilots i 0) ≡ eqb (get_or s (o + 64 * i) 0) (get_or pilots i 0)
+      same = ap (λ (x : ℕ). eqb x (get_or pilots i 0)) (ap (λ (k : ℕ). get_or (drop o s) k 0) (zero-add (64 * i)) ∙ get_or-drop o s (64 * i) 0)
+
+  pub locks_drop : locks (drop o s) 0 ≡ locks s o
+  unfolding locks wrong_pilots
+  locks_drop = ap (λ (n : ℕ). ltb n lock_limit) (count_cong 96 _ _ (λ i h. ap not (met_drop i)))
+
+-- the same, where that is a slice of its own
+pub locks_part : (s part : List ℕ) (o : ℕ) → part ≡ slice_range s o (length s) → locks part 0 ≡ locks s o
+locks_part s part o e =
+    let all : take (length s - o) (drop o s) ≡ drop o s = take_all (length s - o) (drop o s) (rw (length-drop o s) (omega arith)) in
+    ap (λ (l : List ℕ). locks l 0) (e ∙ all) ∙ locks_drop s o
+
+-- the first symbols of a slice are those of the string it is a part of
+pub chunk_at : (s chunk : List ℕ) (o m n : ℕ) → IsFirstChunk (take m (drop o s)) chunk n → (j : ℕ) → j < n → get_or chunk j 0 ≡ get_or s (o + j) 0
+chunk_at s chunk o m n h j l =
+    ap (λ (t : List ℕ). get_or t j 0) h.same ∙ get_or-take n (take m (drop o s)) j 0 l
+    ∙ get_or-take m (drop o s) j 0 (omega (arith, h.enough, length-take m (drop o s))) ∙ get_or-drop o s j 0
+
+-- past its end nothing locks
+pub nothing_locks : (s : List ℕ) (o : ℕ) → length s ≤ o → locks s o ≡ false
+nothing_locks s o h = no_lock s o 0 96 (omega arith) (omega (arith, count_both (λ k. met s o (0 + k)) 96, count_none (λ k. met s o (0 + k)) 96 (λ k l. met_missing s o (0 + k) (omega arith))))
 
 -- ---- a column
 module _ (column : List ℕ) (first : ℕ) where

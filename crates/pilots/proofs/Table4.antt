@@ -11,7 +11,7 @@ use lib.IntN.{pos, negsuc}
 use lib.ListN.{get_or}
 use Rattle.bits.specs.definitions.Bits.{tabulate}
 use Rattle.bits.proofs.Table.{each, range_rule}
-use Rattle.pilots.specs.declared.Level.TheVariants as level
+use Rattle.std.proofs.Common.{Some}
 use Rattle.pilots.specs.definitions.Levels.{level_of}
 use Rattle.pilots.specs.definitions.Table5.{pilots}
 use Rattle.pilots.specs.definitions.Pilots.{register_next, leaves, labels_of, pilot_of, pilot_label}
@@ -48,7 +48,7 @@ outer_levels k t h l =
     (eqb→eq (pilot_label k t % 2) 0
     (range_rule (λ t. eqb (pilot_label k t % 2) 0) 4 0 (range_rule outer_ok 96 0 outer_test k (omega arith) (omega arith)) t (omega arith) (omega arith)))
   where
-    go : (n : ℕ) → n < 4 → n % 2 ≡ 0 → (level_of n ≡ level.At (negsuc 2)) ⊎ (level_of n ≡ level.At (pos 3))
+    go : (n : ℕ) → n < 4 → n % 2 ≡ 0 → (level_of n ≡ Some (negsuc 2)) ⊎ (level_of n ≡ Some (pos 3))
     go zero b e = inl refl
     go (suc zero) b e = absurd (omega arith)
     go (suc (suc zero)) b e = inr refl

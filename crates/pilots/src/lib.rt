@@ -1,321 +1,163 @@
 // Labels and levels, the pilots, the rule of lock, the first offset of a run that keeps it, and the rule over symbols kept in columns.
 #![tactic(auto)]
 
-ghost use Rattle.std.specs.Prelude.{◌≡◌, cond, not, ℕ, ◌+◌, ◌*◌, ◌<◌, ◌≤◌, eqb, ltb, length, get_or};
+ghost use Rattle.std.specs.Prelude.{◌≡◌, Bool, not, ℕ, ◌+◌, ◌*◌, ◌<◌, ◌≤◌, eqb, ltb, cond, get_or, fold, max};
 ghost use Rattle.bits.specs.definitions.Bits.{tabulate, count, least};
 ghost use Rattle.pilots.specs.definitions.Levels.{level_of, label_of};
 ghost use Rattle.pilots.specs.definitions.Table5.{pilots};
-ghost use Rattle.pilots.specs.definitions.Pilots.{met, lock_limit, locks, first_lock, column_frame, locked_column};
-ghost use Rattle.pilots.specs.private.Pilots.{agreeing, counts, first_pilots, next_pilots};
+ghost use Rattle.pilots.specs.definitions.Pilots.{met, lock_limit, locks, below, offsets, first_lock, column_frame, locked_column};
+ghost use Rattle.pilots.specs.private.Pilots.{AnswersBy, few_fail, agreeing, counts};
 
-mod groups;
 mod tables;
+
+// Read in place, where a constant would be copied at each use.
+static PILOTS: [u8; 96] = tables::PILOTS;
+
+// The pilots, copied once for a whole search: the loop over its blocks reads them faster from there.
+#[derive(Drop)]
+struct Table {
+    bytes: [u8; 96],
+    ghost is_table: { bytes ≡ pilots },
+}
 
 // With fewer right of 32 pilots, whichever they are, 25 are wrong, and there is no lock.
 const LEAST_RIGHT: u8 = 8;
 
-// A label's signed level.
-#[derive(Clone, Copy)]
-pub enum Level {
-    At(i8),
-    None,
-}
-
-// A level's label.
-#[derive(Clone, Copy)]
-pub enum Label {
-    Is(u8),
-    None,
-}
-
 // The level of a two-bit label.
-pub fn label_level(label: u8) -> Level
+#[tactic(auto, unfolding(crate::specs::definitions::Levels::level_of))]
+pub fn label_level(label: u8) -> Option<i8>
     ensures { result ≡ level_of label }
 {
     match label {
-        0 => Level::At(-3),
-        1 => Level::At(-1),
-        2 => Level::At(3),
-        3 => Level::At(1),
-        _ => Level::None,
+        0 => Some(-3),
+        1 => Some(-1),
+        2 => Some(3),
+        3 => Some(1),
+        _ => None,
     }
 }
 
 // The label of a level.
-pub fn level_label(level: i8) -> Label
+#[tactic(auto, unfolding(crate::specs::definitions::Levels::label_of))]
+pub fn level_label(level: i8) -> Option<u8>
     ensures { result ≡ label_of level }
 {
     match level {
-        -3 => Label::Is(0),
-        -1 => Label::Is(1),
-        1 => Label::Is(3),
-        3 => Label::Is(2),
-        _ => Label::None,
+        -3 => Some(0),
+        -1 => Some(1),
+        1 => Some(3),
+        3 => Some(2),
+        _ => None,
     }
 }
 
 // The 96 pilots.
+#[tactic(auto, unfolding(crate::specs::definitions::Table5::pilots))]
 pub fn pilots() -> [u8; 96]
     ensures { result ≡ pilots }
 {
-    tables::PILOTS
+    PILOTS
 }
 
-// 1 where pilot i differs or is missing, else 0.
-fn wrong(t: &[u8; 96], symbols: &[u8], offset: usize, i: usize) -> u64
-    requires t_value { t.now ≡ pilots }
-    requires i_bound { i < 96 }
-    ensures { result ≡ cond (not (met symbols.now offset i)) 1 0 }
+// The rule of lock: fewer than 25 of the 96 pilots are not met.
+fn is_lock<F: Fn(usize) -> bool>(met: F) -> bool
+    requires { (i : ℕ) → i < 96 → F.pre met i }
+    ensures { (p : ℕ → Bool) → AnswersBy (F.post met) p → result ≡ few_fail p }
 {
-    if symbols.len() <= offset {
-        return 1;
+    let mut wrong: u8 = 0;
+    for i in 0..96 {
+        wrong += u8::from(!met(i));
     }
-    let step = 64 * i;
-    if symbols.len() - offset <= step {
-        return 1;
-    }
-    let x = symbols[offset + step];
-    let y = t[i];
-    if x == y {
-        return 0;
-    }
-    1
-}
-
-// So few pilots that differ are a lock.
-fn few(wrong: u64) -> bool
-    ensures { result ≡ ltb wrong lock_limit }
-{
     wrong < 25
 }
 
-// The rule of lock: fewer than 25 of the 96 pilots differ, pilot i standing at symbol offset + 64 i.
-fn locks_at(t: &[u8; 96], symbols: &[u8], offset: usize) -> bool
-    requires { t.now ≡ pilots }
-    ensures { result ≡ locks symbols.now offset }
+// The rule over symbols from a frame's first on: pilot i is symbol 64 i, and a missing one is not met.
+fn frame_locks(symbols: &[u8]) -> bool
+    ensures { result ≡ locks symbols.now 0 }
 {
-    let mut n: u64 = 0;
-    let mut i: usize = 0;
-    while i < 96 {
-        n += wrong(t, symbols, offset, i);
-        i += 1;
-    }
-    few(n)
+    is_lock(|i| symbols.get(64 * i) == Some(&PILOTS[i]))
 }
 
-// The same, with the table.
+// The rule over symbols from the one at `offset` on.
+#[tactic(auto, using(crate::proofs::Lock::locks_part, crate::proofs::Lock::nothing_locks))]
 pub fn locks(symbols: &[u8], offset: usize) -> bool
     ensures { result ≡ locks symbols.now offset }
 {
-    let t = pilots();
-    locks_at(&t, symbols, offset)
+    symbols.get(offset..).is_some_and(frame_locks)
 }
 
-// 1 where a symbol is the pilot, else 0.
-fn agrees(symbol: u8, pilot: u8) -> u8
-    ensures { result ≡ cond (eqb symbol pilot) 1 0 }
+// One pilot at 128 neighbouring offsets: one loop over plain bytes, which the compiler takes sixteen at a time.
+fn count_agreeing(symbols: &[u8; 128], pilot: u8, right: &mut [u8; 128])
+    requires { (j : ℕ) → j < 128 → get_or right.old j 0 < 32 }
+    ensures { right.new ≡ tabulate 128 (λ j. get_or right.old j 0 + cond (eqb (get_or symbols.now j 0) pilot) 1 0) }
 {
-    if symbol == pilot {
-        return 1;
+    for j in 0..128 {
+        right[j] += u8::from(symbols[j] == pilot);
     }
-    0
-}
-
-// One pilot at 128 neighbouring offsets, the first of which has its symbol at `at`: one loop over plain bytes, which the compiler takes sixteen at a time.
-fn count_agreeing(symbols: &[u8], at: usize, pilot: u8, right: &mut [u8; 128])
-    requires { (at + 128 ≤ length symbols.now) × (length right.old ≡ 128) × ((j : ℕ) → j < 128 → get_or right.old j 0 < 32) }
-    ensures { right.new ≡ tabulate 128 (λ j. get_or right.old j 0 + cond (eqb (get_or symbols.now (at + j) 0) pilot) 1 0) }
-{
-    let mut j: usize = 0;
-    while j < 128 {
-        let symbol = symbols[at + j];
-        right[j] = right[j] + agrees(symbol, pilot);
-        j += 1;
-    }
-}
-
-// How many of the first 32 pilots are met at each of 128 neighbouring offsets: pilot by pilot, so that the inner loop reads neighbours.
-fn count_right(t: &[u8; 96], symbols: &[u8], offset: usize) -> [u8; 128]
-    requires t_value { t.now ≡ pilots }
-    requires offset_in_bounds { offset + 6271 ≤ length symbols.now }
-    ensures { result ≡ counts symbols.now offset 32 }
-{
-    let mut right = [0u8; 128];
-    let mut i: usize = 0;
-    while i < 32 {
-        let row = offset + 64 * i;
-        let pilot = t[i];
-        count_agreeing(symbols, row, pilot, &mut right);
-        i += 1;
-    }
-    right
-}
-
-// The greater of two counts.
-fn greater(x: u8, y: u8) -> u8
-    ensures { (x ≤ result) × (y ≤ result) }
-{
-    if x < y {
-        return y;
-    }
-    x
 }
 
 // The largest of 128 counts.
 fn largest(right: &[u8; 128]) -> u8
-    ensures { (j : ℕ) → j < 128 → get_or right.now j 0 ≤ result }
+    ensures { result ≡ fold max 0 right.now }
 {
-    let mut most: u8 = 0;
-    let mut j: usize = 0;
-    while j < 128 {
-        let next = right[j];
-        most = greater(most, next);
-        j += 1;
-    }
-    most
+    right.iter().copied().fold(0, u8::max)
 }
 
-// The rule of lock where so many of the first 32 pilots are right: with too few it is broken already, and nothing is read.
-fn locks_with(t: &[u8; 96], symbols: &[u8], offset: usize, right: u8) -> bool
-    requires t_value { t.now ≡ pilots }
-    requires offset_in_bounds { (offset + 6144 ≤ length symbols.now) × (right ≡ agreeing symbols.now offset 32) }
-    ensures { result ≡ locks symbols.now offset }
-{
-    if right < LEAST_RIGHT {
-        return false;
+impl Table {
+    fn new() -> Table {
+        Table { bytes: pilots() }
     }
-    locks_at(t, symbols, offset)
-}
 
-// The first of 128 neighbouring offsets that locks, each count of right pilots given; 128 where none does.
-fn first_open(t: &[u8; 96], symbols: &[u8], offset: usize, right: &[u8; 128]) -> usize
-    requires t_value { t.now ≡ pilots }
-    requires offset_in_bounds { (offset + 6271 ≤ length symbols.now) × (right.now ≡ counts symbols.now offset 32) }
-    ensures { result ≡ least (λ j. locks symbols.now (offset + j)) 128 }
-{
-    let mut j: usize = 0;
-    while j < 128 {
-        let here = offset + j;
-        let met = right[j];
-        if locks_with(t, symbols, here, met) {
-            return j;
+    // How many of the first 32 pilots are met at each of 128 neighbouring offsets: pilot by pilot, so that the inner loop reads neighbours.
+    fn count_right(&self, symbols: &[u8; 6271]) -> [u8; 128]
+        ensures { result ≡ counts symbols.now 32 }
+    {
+        let mut right = [0; 128];
+        for (i, pilot) in self.bytes[..32].iter().enumerate() {
+            count_agreeing(symbols[64 * i..].first_chunk().unwrap(), *pilot, &mut right);
         }
-        j += 1;
+        right
     }
-    128
-}
 
-// The same, the counts made here: a block whose largest count is too small is left at once, which most blocks of a string without a lock are.
-fn first_in_block(t: &[u8; 96], symbols: &[u8], offset: usize) -> usize
-    requires t_value { t.now ≡ pilots }
-    requires offset_in_bounds { offset + 6271 ≤ length symbols.now }
-    ensures { result ≡ least (λ j. locks symbols.now (offset + j)) 128 }
-{
-    let right = count_right(t, symbols, offset);
-    let most = largest(&right);
-    if most < LEAST_RIGHT {
-        return 128;
-    }
-    first_open(t, symbols, offset, &right)
-}
-
-// The first of n neighbouring offsets that locks, asked one by one; n where none does.
-fn first_of(t: &[u8; 96], symbols: &[u8], offset: usize, n: usize) -> usize
-    requires t_value { t.now ≡ pilots }
-    requires n_in_bounds { offset + n + 6143 ≤ length symbols.now }
-    ensures { result ≡ least (λ j. locks symbols.now (offset + j)) n }
-{
-    let mut j: usize = 0;
-    while j < n {
-        let here = offset + j;
-        if locks_at(t, symbols, here) {
-            return j;
+    // The first of 128 neighbouring offsets that locks. Only those are asked at which enough of the first 32 pilots are right, and in most blocks of a string
+    // without a lock none are.
+    fn first_in_block(&self, symbols: &[u8; 6271]) -> Option<usize>
+        ensures { result ≡ below 128 (least (locks symbols.now) 128) }
+    {
+        let right = self.count_right(symbols);
+        if largest(&right) < LEAST_RIGHT {
+            return None;
         }
-        j += 1;
+        (0..128).find(|&j| right[j] >= LEAST_RIGHT && locks(symbols, j))
     }
-    n
 }
 
-// The smallest offset of a run at which a whole frame fits and locks; where there is none, the number of offsets at which one fits. Searched in blocks of 128
-// offsets, and what is left behind the last of them one by one.
-pub fn first_lock(run: &[u8]) -> usize
-    ensures { result ≡ first_lock run.now }
+// The smallest offset of a run at which a whole frame fits and locks, if there is one. Searched in blocks of 128 offsets, and what is left behind the last of
+// them one by one.
+pub fn first_lock(run: &[u8]) -> Option<usize>
+    ensures { result ≡ below (offsets run.now) (first_lock run.now) }
 {
-    if run.len() < 6144 {
-        return 0;
-    }
-    let t = pilots();
-    let end = run.len() - 6143;
-    let mut offset: usize = 0;
-    while end - offset >= 128 {
-        let found = first_in_block(&t, run, offset);
-        if found < 128 {
-            return offset + found;
+    let table = Table::new();
+    let end = run.len().saturating_sub(6143);
+    let blocks = end / 128;
+    for block in 0..blocks {
+        let offset = 128 * block;
+        if let Some(j) = table.first_in_block(run[offset..].first_chunk().unwrap()) {
+            return Some(offset + j);
         }
-        offset += 128;
     }
-    let rest = end - offset;
-    offset + first_of(&t, run, offset, rest)
+    (128 * blocks..end).find(|&offset| locks(run, offset))
 }
 
-// How many of 32 pilots are those from row `at` on of a column.
-fn agreeing_in(group: &[u8; 32], column: &[u8], at: usize) -> u8
-    requires { at + 32 ≤ length column.now }
-    ensures { result ≡ count (λ k. eqb (get_or column.now (at + k) 0) (get_or group.now k 0)) 32 }
+// How many of 32 symbols side by side are the pilots given.
+fn count_same(symbols: &[u8; 32], pilots: &[u8; 32]) -> u8
+    ensures { result ≡ count (λ k. eqb (get_or symbols.now k 0) (get_or pilots.now k 0)) 32 }
 {
-    let mut n: u8 = 0;
-    let mut k: usize = 0;
-    while k < 32 {
-        let symbol = column[at + k];
-        let pilot = group[k];
-        n = n + agrees(symbol, pilot);
-        k += 1;
+    let mut same = 0;
+    for k in 0..32 {
+        same += u8::from(symbols[k] == pilots[k]);
     }
-    n
-}
-
-// 1 where pilot i differs in a column that has the first at row `first`, else 0.
-fn wrong_in(t: &[u8; 96], column: &[u8], first: usize, i: usize) -> u64
-    requires t_value { t.now ≡ pilots }
-    requires column_len { (length column.now ≡ 96) × (first < 96) × (i < 96) }
-    ensures { result ≡ cond (not (met (column_frame column.now first) 0 i)) 1 0 }
-{
-    let row = (first + i) % 96;
-    let x = column[row];
-    let y = t[i];
-    if x == y {
-        return 0;
-    }
-    1
-}
-
-// The rule of lock over a column that has the first pilot's symbol at row `first`.
-fn column_locks(column: &[u8], first: usize) -> bool
-    requires { (length column.now ≡ 96) × (first < 96) }
-    ensures { result ≡ locks (column_frame column.now first) 0 }
-{
-    let t = pilots();
-    let mut n: u64 = 0;
-    let mut i: usize = 0;
-    while i < 96 {
-        n += wrong_in(&t, column, first, i);
-        i += 1;
-    }
-    few(n)
-}
-
-// The first 32 pilots: a table so small costs little with each symbol.
-fn first_pilots() -> [u8; 32]
-    ensures { result ≡ first_pilots }
-{
-    groups::FIRST
-}
-
-// The 32 behind them.
-fn next_pilots() -> [u8; 32]
-    ensures { result ≡ next_pilots }
-{
-    groups::NEXT
+    same
 }
 
 // Whether 96 symbols, side by side, lock as those of a frame 64 apart, the first of which stands at row `first` and the others behind it and round. Of the
@@ -323,20 +165,15 @@ fn next_pilots() -> [u8; 32]
 pub fn locked_column(column: &[u8], first: usize) -> bool
     ensures { result ≡ locked_column column.now first }
 {
-    if column.len() != 96 {
+    let Some(column) = column.as_array::<96>() else {
         return false;
-    }
+    };
     let row = first % 96;
-    if row <= 64 {
-        let group = first_pilots();
-        if agreeing_in(&group, column, row) < LEAST_RIGHT {
-            return false;
-        }
-    } else {
-        let group = next_pilots();
-        if agreeing_in(&group, column, row - 64) < LEAST_RIGHT {
-            return false;
-        }
-    }
-    column_locks(column, row)
+    let pilot = if row <= 64 { 0 } else { 32 };
+    let at = (row + pilot) % 96;
+    let right = count_same(
+        column[at..].first_chunk().unwrap(),
+        PILOTS[pilot..].first_chunk().unwrap(),
+    );
+    right >= LEAST_RIGHT && is_lock(|i| column[(row + i) % 96] == PILOTS[i])
 }

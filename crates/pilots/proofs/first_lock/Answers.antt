@@ -1,57 +1,27 @@
--- `pilots::first_lock` meets its contract: the run locks at no offset before this one. Assumes nothing.
-use mathlib.Core.Path.{◌≡◌}
-use Prim.Native.Nat.{◌+◌, ◌-◌}
-use native.Mathlib.Omega.{arith}
-use lib.ListN.{length}
-use borrow.Author.Count.{below_none}
-use Rattle.bits.proofs.Least.{least_le}
-use Rattle.pilots.specs.definitions.Pilots.{locks, offsets, first_lock}
-use Rattle.pilots.proofs.Lock.{first_lock_is}
-use Rattle.pilots.proofs.Blocks.{none_before, first_behind}
+-- `pilots::first_lock` meets its contract: a block has the first offset that locks, or none, or one of those behind all blocks is it. Assumes nothing.
+use Rattle.std.proofs.Common.{◌≡◌, ap, ◌∙◌, ℕ, ◌*◌, ◌/◌, ◌<◌, true, false, rules, arith}
+use Rattle.std.proofs.lemmas.Iterator.{first_from_Range}
+use Rattle.bits.specs.definitions.Bits.{least}
+use borrow.Author.Tests.{tests}
+use Rattle.pilots.specs.definitions.Pilots.{locks, below, offsets, first_lock}
+use Rattle.pilots.proofs.Blocks.{none_in_block, first_in_run, found_from}
 use Rattle.pilots.proofs.first_lock.Goals as goal
 
-pub returns-then-run-lt6144 : goal.returns-then-run-lt6144
-returns-then-run-lt6144 c =
-    let s = c.args.run.now in
-    first_lock_is s 0 (omega arith) (λ h. absurd (let n : offsets s ≡ 0 = omega arith in omega arith)) (below_none _)
+pub returns-in-Some : goal.returns-in-Some
+returns-in-Some c =
+    first_in_run c.args.run.now _ _ _ (rw c.unwrap.ensures at c.first_chunk.ensures.cases) c.in-Some.j c.in-Some.ensures c.loop-block.invariant
 
-pub loop-offset-init : goal.loop-offset-init
-loop-offset-init c = (omega arith, below_none _)
-
-pub first_in_block-found-requires : goal.first_in_block-found-requires
-first_in_block-found-requires c =
-    record {
-      t_value = c.pilots-t.ensures;
-      offset_in_bounds = omega arith;
-    }
-
-pub returns-then-found-lt128 : goal.returns-then-found-lt128
-unfolding first_lock
-returns-then-found-lt128 c =
-    let s = c.args.run.now in
-    first_behind (locks s) c.loop-offset.offset 128 c.loop-offset.invariant.1 c.first_in_block-found.ensures (offsets s) (omega arith)
-    (λ h. c.if-found-lt128.true)
-
-pub loop-offset-preserved : goal.loop-offset-preserved
-loop-offset-preserved c =
-    let s = c.args.run.now in
-    (omega arith, λ i h. none_before (locks s) c.loop-offset.offset 128 c.loop-offset.invariant.1 c.first_in_block-found.ensures i (omega arith))
-
-pub first_of-requires : goal.first_of-requires
-first_of-requires c =
-    record {
-      t_value = c.pilots-t.ensures;
-      n_in_bounds = omega arith;
-    }
-
-pub overflow_add-result-2 : goal.overflow_add-result-2
-overflow_add-result-2 c =
-    let s = c.args.run.now in
-    omega (arith, c.first_of.ensures, least_le (λ j. locks s (c.loop-offset.offset + j)) (length s - 6143 - c.loop-offset.offset))
+pub loop-block-preserved : goal.loop-block-preserved
+loop-block-preserved c =
+    λ o h. none_in_block c.args.run.now _ _ _ (rw c.unwrap.ensures at c.first_chunk.ensures.cases) c.in_default.ensures c.loop-block.invariant o (omega arith)
 
 pub returns : goal.returns
 unfolding first_lock
 returns c =
     let s = c.args.run.now in
-    first_behind (locks s) c.loop-offset.offset (length s - 6143 - c.loop-offset.offset) c.loop-offset.invariant.1 c.first_of.ensures (offsets s)
-    (omega arith) (λ h. omega arith)
+    let end = c.saturating_sub-end.result in
+    let all : end ≡ offsets s = omega (arith, c.saturating_sub-end.ensures) in
+    found_from (locks s) end (128 * (end / 128)) (λ k l. c.loop-block.invariant k (omega arith)) c.find.result
+    (first_from_Range _ _ _ c.find.result (λ j. locks s j ≡ true) (λ j. j < end → locks s j ≡ false) c.find.ensures.ran (λ x q k. search (rules, tests))
+    (λ x q k. search (rules, tests)))
+    ∙ ap (λ (n : ℕ). below n (least (locks s) n)) all

@@ -1,12 +1,7 @@
--- `pilots::first_lock` meets its contract: the run locks at no offset before this one. Assumes nothing.
-use mathlib.Core.Path.{◌≡◌}
-use mathlib.Core.Bool.{false}
-use Prim.Native.Nat.{ℕ, ◌-◌, ◌<◌, ◌≤◌}
+-- `pilots::first_lock` meets its contract: the run locks at no offset of the blocks before. Assumes nothing.
+use Rattle.std.proofs.Common.{◌≡◌, false, ℕ, ◌*◌, ◌<◌}
 use Rattle.pilots.specs.definitions.Pilots.{locks}
 use Rattle.pilots.proofs.first_lock.Given as goal
 
-abbrev pub invariant-loop-offset : goal.invariant-loop-offset
-invariant-loop-offset l = (l.offset ≤ l.end) × ((o : ℕ) → o < l.offset → locks l.run o ≡ false)
-
-abbrev pub decreases-loop-offset : goal.decreases-loop-offset
-decreases-loop-offset l = l.end - l.offset
+abbrev pub invariant-loop-block : goal.invariant-loop-block
+invariant-loop-block l = (o : ℕ) → o < 128 * l.block → locks l.run o ≡ false

@@ -1,44 +1,41 @@
 -- `pilots::locked_column` meets its contract: too few of a group are right for a lock, or the rule is asked. Assumes nothing.
-use mathlib.Core.Path.{◌≡◌, sym, ap, ◌∙◌}
-use mathlib.Core.Bool.{false}
-use mathlib.Core.List.{List}
-use Prim.Native.Nat.{ℕ, ◌+◌, ◌-◌, ◌%◌, ◌<◌, ◌≤◌}
-use native.Mathlib.Omega.{arith}
-use lib.Dec.{eqb}
-use lib.ListN.{length, get_or}
-use Rattle.bits.specs.definitions.Bits.{count}
+use Rattle.std.proofs.Common.{◌≡◌, sym, ap, ◌∙◌, List, ℕ, false, ◌+◌, ◌%◌, ◌<◌, ◌≤◌, eqb, leb, get_or, rules, arith}
+use borrow.Author.Tests.{tests}
 use Rattle.pilots.specs.definitions.Table5.{pilots}
-use Rattle.pilots.specs.private.Pilots.{least_right, first_pilots, next_pilots}
-use Rattle.pilots.specs.definitions.Pilots.{locked_column}
-use Rattle.pilots.proofs.Lock.{column_lock, no_column, column_round}
-use Rattle.pilots.proofs.Blocks.{column_closed, first_group, next_group}
+use Rattle.pilots.specs.definitions.Pilots.{met, locks, wrong_pilots, column_frame}
+use Rattle.pilots.proofs.Lock.{column_lock, no_column, column_round, column_met, chunk_at}
+use Rattle.pilots.proofs.Blocks.{column_closed}
+use Rattle.pilots.proofs.locked_column.Goals.{then-row-le64, else-row-le64}
 use Rattle.pilots.proofs.locked_column.Goals as goal
 
--- too few of the group that begins with pilot i, at row `at`
-closed : (column : List ℕ) (first i : ℕ) (group : List ℕ) (at : ℕ) → length column ≡ 96 → i + 32 ≤ 96
-    → ((k : ℕ) → k < 32 → (first % 96 + (i + k)) % 96 ≡ at + k) → ((k : ℕ) → k < 32 → get_or group k 0 ≡ get_or pilots (i + k) 0)
-    → (table : List ℕ) {n : ℕ} → table ≡ group → n ≡ count (λ k. eqb (get_or column (at + k) 0) (get_or table k 0)) 32 → n < least_right
-    → false ≡ locked_column column first
-closed column first i group at long l rows same table e q h =
-    sym (column_round column first ∙ column_lock column (first % 96) long ∙ column_closed column (first % 96) at i group l rows same
-    (omega (arith, q ∙ ap (λ (t : List ℕ). count (λ k. eqb (get_or column (at + k) 0) (get_or t k 0)) 32) e)))
+pub returns-in_default : goal.returns-in_default
+returns-in_default c = sym (no_column c.args.column.now c.args.first c.in_default.ensures.cases)
 
-pub returns-then-column-ne96 : goal.returns-then-column-ne96
-returns-then-column-ne96 c = let a = c.args in sym (no_column a.column.now a.first (omega arith))
+pub returns-then-right-ge-LEAST_RIGHT : goal.returns-then-right-ge-LEAST_RIGHT
+unfolding locks wrong_pilots pilots
+returns-then-right-ge-LEAST_RIGHT c =
+    let column = c.args.column.now in
+    let row = c.args.first % 96 in
+    let same = c.in-Some.ensures.cases in
+    c.is_lock.ensures (met (column_frame column row) 0) (λ i b h q.
+    let e : b ≡ eqb (get_or c.in-Some.column.now ((row + i) % 96) 0) (get_or pilots i 0) = search rules in
+    e ∙ ap (λ (l : List ℕ). eqb (get_or l ((row + i) % 96) 0) (get_or pilots i 0)) same.same ∙ sym (column_met column row i h))
+    ∙ sym (column_round column c.args.first ∙ column_lock column row same.long)
 
-pub returns-then-agreeing_in-lt-LEAST_RIGHT : goal.returns-then-agreeing_in-lt-LEAST_RIGHT
-returns-then-agreeing_in-lt-LEAST_RIGHT c =
-    let a = c.args in
-    closed a.column.now a.first 0 first_pilots (a.first % 96) (omega arith) (omega arith) (λ k h. omega arith) first_group _
-    c.first_pilots-group.ensures c.agreeing_in.ensures (omega arith)
-
-pub returns-then-agreeing_in-lt-LEAST_RIGHT-2 : goal.returns-then-agreeing_in-lt-LEAST_RIGHT-2
-returns-then-agreeing_in-lt-LEAST_RIGHT-2 c =
-    let a = c.args in
-    closed a.column.now a.first 32 next_pilots (a.first % 96 - 64) (omega arith) (omega arith) (λ k h. omega arith) next_group _
-    c.next_pilots-group.ensures c.agreeing_in-else-row-le64.ensures (omega arith)
-
-pub returns : goal.returns
-returns c =
-    let a = c.args in
-    c.column_locks.ensures ∙ sym (column_round a.column.now a.first ∙ column_lock a.column.now (a.first % 96) (omega arith))
+pub returns-else-right-ge-LEAST_RIGHT : goal.returns-else-right-ge-LEAST_RIGHT
+unfolding pilots
+returns-else-right-ge-LEAST_RIGHT c =
+    let column = c.args.column.now in
+    let row = c.args.first % 96 in
+    let pilot = c.if-row-le64.pilot in
+    let same = c.in-Some.ensures.cases in
+    let none : leb 8 c.count_same-right.result ≡ false = search (rules, tests) in
+    let here = rw c.unwrap.ensures at c.first_chunk.ensures.cases in
+    let group = rw c.unwrap-2.ensures at c.first_chunk-2.ensures.cases in
+    let fits : pilot + 32 ≤ 96 = elim c.if-row-le64.branch [ then-row-le64 w ↦ omega arith | else-row-le64 w ↦ omega arith ] in
+    let rows : (k : ℕ) → k < 32 → (row + (pilot + k)) % 96 ≡ (row + pilot) % 96 + k =
+    λ k h. elim c.if-row-le64.branch [ then-row-le64 w ↦ omega arith | else-row-le64 w ↦ omega arith ] in
+    let closed : locks (column_frame column row) 0 ≡ false = column_closed column row ((row + pilot) % 96) pilot c.unwrap.result.now c.unwrap-2.result.now fits rows
+    (λ k h. chunk_at c.in-Some.column.now _ _ _ _ here k h ∙ ap (λ (l : List ℕ). get_or l ((row + pilot) % 96 + k) 0) same.same)
+    (λ k h. chunk_at pilots _ _ _ _ group k h) (omega (arith, c.count_same-right.ensures)) in
+    none ∙ sym (column_round column c.args.first ∙ column_lock column row same.long ∙ closed)

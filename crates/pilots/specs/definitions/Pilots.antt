@@ -1,6 +1,6 @@
 -- Pilots and lock (01, pilots and refusal 5; 000, 7.1, table 4; table 5 is in Table5), and where a string first locks (02, request 04).
 -- Assumes nothing.
-use Rattle.std.specs.Prelude.{Bool, not, ◌&&◌, List, ℕ, zero, suc, ◌+◌, ◌*◌, ◌-◌, ◌/◌, ◌%◌, ◌^◌, length, get_or, eqb, ltb}
+use Rattle.std.specs.Prelude.{Bool, cond, not, ◌&&◌, Option, Some, None, List, ℕ, zero, suc, ◌+◌, ◌*◌, ◌-◌, ◌/◌, ◌%◌, ◌^◌, length, get_or, eqb, ltb}
 use Rattle.bits.specs.definitions.Bits.{tabulate, count, least}
 use Rattle.pilots.specs.definitions.Table5.{pilots}
 
@@ -52,6 +52,10 @@ offsets s = suc (length s) - frame_symbols
 -- the smallest of these at which s locks; their number, where it locks at none
 unfoldable pub first_lock : List ℕ → ℕ
 first_lock s = least (locks s) (offsets s)
+
+-- the number o if it is below n, else none
+abbrev pub below : ℕ → ℕ → Option ℕ
+below n o = cond (ltb o n) (Some o) None
 
 -- a column is 96 symbols that stood 64 apart, kept side by side. A frame whose pilots' symbols they are, the first at row `first`, the others behind it and
 -- round; each stands 64 times in it

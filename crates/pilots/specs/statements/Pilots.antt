@@ -1,8 +1,7 @@
 -- What is to be shown of the 96 pilots (01, pilots); `proofs/Table4` proves each.
 -- Assumes nothing.
-use Rattle.std.specs.Prelude.{◌≡◌, ◌⊎◌, ℕ, ◌+◌, ◌*◌, ◌<◌, pos, negsuc, get_or}
+use Rattle.std.specs.Prelude.{◌≡◌, ◌⊎◌, ℕ, ◌+◌, ◌*◌, ◌<◌, pos, negsuc, Some, get_or}
 use Rattle.bits.specs.definitions.Bits.{tabulate}
-use Rattle.pilots.specs.declared.Level.TheVariants as level
 use Rattle.pilots.specs.definitions.Levels.{level_of}
 use Rattle.pilots.specs.definitions.Table5.{pilots}
 use Rattle.pilots.specs.definitions.Pilots.{pilot_of, pilot_label}
@@ -17,4 +16,4 @@ PilotLabels = (k : ℕ) → k < 96 → get_or pilots k 0 ≡ ((pilot_label k 0 *
 
 -- only outer levels occur: each tributary's label of each pilot has the level -3 or +3
 abbrev pub OuterLevels : Type 0
-OuterLevels = (k t : ℕ) → k < 96 → t < 4 → (level_of (pilot_label k t) ≡ level.At (negsuc 2)) ⊎ (level_of (pilot_label k t) ≡ level.At (pos 3))
+OuterLevels = (k t : ℕ) → k < 96 → t < 4 → (level_of (pilot_label k t) ≡ Some (negsuc 2)) ⊎ (level_of (pilot_label k t) ≡ Some (pos 3))
