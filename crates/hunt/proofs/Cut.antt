@@ -14,7 +14,7 @@ use lib.ListN.{length, get_or, set, length-append, length-set, get_or-append}
 use lib.Seq.{get_or-append_seam, get_or-set_same, get_or-set_other}
 use Rattle.pilots.specs.definitions.Pilots.{locks}
 use Rattle.pilots.proofs.Lock.{locks_alike}
-use Rattle.hunt.specs.declared.Found.TheVariants as found
+use Rattle.hunt.specs.definitions.Found as found
 use Rattle.hunt.specs.definitions.Find.{find, Starts}
 use Rattle.hunt.specs.definitions.Pieces.{Search, kept_place, from_oldest, start_found, search_at, symbol_taken, piece_taken, answer}
 use Rattle.hunt.proofs.Finding.{find_short, answer_short, answer_none, answer_at}

@@ -10,8 +10,8 @@ use Rattle.bits.specs.definitions.Bits.{tabulate}
 use Rattle.bits.proofs.Tabulate.{length_tabulate, get_d_tabulate}
 use Rattle.pilots.specs.definitions.Table5.{pilots}
 use Rattle.pilots.proofs.Lock.{pilots_lock, zeros, zeros_no_lock}
-use Rattle.hunt.specs.declared.Found.{Found}
-use Rattle.hunt.specs.declared.Found.TheVariants as found
+use Rattle.hunt.specs.definitions.Found.{Found}
+use Rattle.hunt.specs.definitions.Found as found
 use Rattle.hunt.specs.definitions.Find.{find}
 use Rattle.hunt.proofs.Exactly.{found_exactly, none_exactly}
 

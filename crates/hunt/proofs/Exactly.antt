@@ -10,8 +10,8 @@ use native.Mathlib.Omega.{arith}
 use lib.ListN.{length}
 use Rattle.bits.proofs.Least.{least_passes, least_fails}
 use Rattle.pilots.specs.definitions.Pilots.{frame_symbols, locks, offsets, first_lock}
-use Rattle.hunt.specs.declared.Found.{Found}
-use Rattle.hunt.specs.declared.Found.TheVariants as found
+use Rattle.hunt.specs.definitions.Found.{Found}
+use Rattle.hunt.specs.definitions.Found as found
 use Rattle.hunt.specs.declared.Hunt.{Hunt}
 use Rattle.hunt.specs.definitions.Pieces.{answer}
 use Rattle.hunt.specs.definitions.Find.{short_run, find, Starts}

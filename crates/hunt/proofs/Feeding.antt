@@ -33,8 +33,9 @@ module _ (h : Hunt) (kept piece : List ℕ) where
   room e z l = passed 6144 kept 2 counted e ∙ rw (eq-eqb h.found 0 z, lt-ltb (h.taken + length piece) (2 ^ 64) l) refl
 
   -- a refused call leaves everything
-  pub refused : (k : ℕ) → feed_number h kept piece ≡ suc k → Feeds h kept piece (suc k) h kept
-  refused k e = record { number = sym e; hunt = sym (left (feed_number h kept piece) k _ h e); symbols = sym (left (feed_number h kept piece) k _ kept e) }
+  pub refused : (k : ℕ) {kept' : List ℕ} → kept' ≡ kept → feed_number h kept piece ≡ suc k → Feeds h kept piece (suc k) h kept'
+  refused k same e =
+      record { number = sym e; hunt = sym (left (feed_number h kept piece) k _ h e); symbols = same ∙ sym (left (feed_number h kept piece) k _ kept e) }
 
   -- a call that is done leaves what the piece comes to
   pub done : {h' : Hunt} {kept' : List ℕ} → feed_number h kept piece ≡ 0

@@ -5,5 +5,5 @@ pub mod Exactly
 pub mod Cut
 pub mod Runs
 pub mod Refusals
-pub mod Determined
 pub mod Empty
+pub mod Determined

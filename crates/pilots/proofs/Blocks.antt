@@ -131,7 +131,9 @@ module _ (s chunk : List ℕ) (o m : ℕ) (h : IsFirstChunk (take m (drop o s)) 
   block_locks : (j : ℕ) → j < 128 → locks chunk j ≡ locks s (o + j)
   block_locks j l =
       locks_alike chunk j s (o + j) (omega (arith, ap length h.same ∙ length-take-le 6271 (take m (drop o s)) h.enough)) (omega (arith, block_fits))
-      (λ i b. chunk_at s chunk o m 6271 h (j + 64 * i) (omega arith) ∙ (let e : o + (j + 64 * i) ≡ o + j + 64 * i = omega arith in ap (λ (k : ℕ). get_or s k 0) e))
+      (λ i b.
+      let at : o + (j + 64 * i) ≡ o + j + 64 * i = omega arith in
+      chunk_at s chunk o m 6271 h (j + 64 * i) (omega arith) ∙ ap (λ (k : ℕ). get_or s k 0) at)
 
   -- none of them locks
   pub none_in_block : None ≡ below 128 (least (locks chunk) 128) → ((k : ℕ) → k < o → locks s k ≡ false) → (k : ℕ) → k < o + 128 → locks s k ≡ false

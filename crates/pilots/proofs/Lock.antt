@@ -105,7 +105,9 @@ chunk_at s chunk o m n h j l =
 
 -- past its end nothing locks
 pub nothing_locks : (s : List ℕ) (o : ℕ) → length s ≤ o → locks s o ≡ false
-nothing_locks s o h = no_lock s o 0 96 (omega arith) (omega (arith, count_both (λ k. met s o (0 + k)) 96, count_none (λ k. met s o (0 + k)) 96 (λ k l. met_missing s o (0 + k) (omega arith))))
+nothing_locks s o h =
+    let none = count_none (λ k. met s o (0 + k)) 96 (λ k l. met_missing s o (0 + k) (omega arith)) in
+    no_lock s o 0 96 (omega arith) (omega (arith, none, count_both (λ k. met s o (0 + k)) 96))
 
 -- ---- a column
 module _ (column : List ℕ) (first : ℕ) where

@@ -2,8 +2,8 @@
 -- Assumes nothing.
 use Rattle.std.specs.Prelude.{◌≡◌, true, false, cond, List, ℕ, ◌+◌, ◌<◌, ◌≤◌, ltb, length}
 use Rattle.pilots.specs.definitions.Pilots.{frame_symbols, locks, offsets, first_lock}
-use Rattle.hunt.specs.declared.Found.{Found}
-use Rattle.hunt.specs.declared.Found.TheVariants as found
+use Rattle.hunt.specs.definitions.Found.{Found}
+use Rattle.hunt.specs.definitions.Found as found
 
 -- the number that refuses a run, all pieces together, that is shorter than a frame
 abbrev pub short_run : ℕ

@@ -5,8 +5,8 @@ use Rattle.std.specs.Prelude.{◌≡◌, cond, not, ◌&&◌, List, [], ◌∷�
 use Rattle.bits.specs.definitions.Bits.{tabulate}
 use Rattle.bits.specs.definitions.Call.{unless, after}
 use Rattle.pilots.specs.definitions.Pilots.{frame_symbols, locks}
-use Rattle.hunt.specs.declared.Found.{Found}
-use Rattle.hunt.specs.declared.Found.TheVariants as found
+use Rattle.hunt.specs.definitions.Found.{Found}
+use Rattle.hunt.specs.definitions.Found as found
 use Rattle.hunt.specs.declared.Hunt.{Hunt}
 use Rattle.hunt.specs.definitions.Find.{short_run}
 

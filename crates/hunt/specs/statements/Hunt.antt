@@ -2,7 +2,7 @@
 -- Assumes nothing.
 use Rattle.std.specs.Prelude.{◌≡◌, true, false, ◌≢◌, ◌↔◌, List, ◌++◌, ℕ, ◌+◌, ◌^◌, ◌<◌, ◌≤◌, length, get_or}
 use Rattle.pilots.specs.definitions.Pilots.{frame_symbols, locks}
-use Rattle.hunt.specs.declared.Found.TheVariants as found
+use Rattle.hunt.specs.definitions.Found as found
 use Rattle.hunt.specs.declared.Hunt.{Hunt}
 use Rattle.hunt.specs.definitions.Find.{short_run, find, Starts, FoundBy}
 use Rattle.hunt.specs.definitions.Pieces.{kept_place, answer, Feeds, FeedRun, joined, not_refused}

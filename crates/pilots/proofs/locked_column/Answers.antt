@@ -35,7 +35,8 @@ returns-else-right-ge-LEAST_RIGHT c =
     let fits : pilot + 32 ≤ 96 = elim c.if-row-le64.branch [ then-row-le64 w ↦ omega arith | else-row-le64 w ↦ omega arith ] in
     let rows : (k : ℕ) → k < 32 → (row + (pilot + k)) % 96 ≡ (row + pilot) % 96 + k =
     λ k h. elim c.if-row-le64.branch [ then-row-le64 w ↦ omega arith | else-row-le64 w ↦ omega arith ] in
-    let closed : locks (column_frame column row) 0 ≡ false = column_closed column row ((row + pilot) % 96) pilot c.unwrap.result.now c.unwrap-2.result.now fits rows
+    let closed : locks (column_frame column row) 0 ≡ false =
+    column_closed column row ((row + pilot) % 96) pilot c.unwrap.result.now c.unwrap-2.result.now fits rows
     (λ k h. chunk_at c.in-Some.column.now _ _ _ _ here k h ∙ ap (λ (l : List ℕ). get_or l ((row + pilot) % 96 + k) 0) same.same)
     (λ k h. chunk_at pilots _ _ _ _ group k h) (omega (arith, c.count_same-right.ensures)) in
     none ∙ sym (column_round column c.args.first ∙ column_lock column row same.long ∙ closed)
