@@ -14,14 +14,15 @@ returns-then-found c =
     ∙ c.loop-symbol.invariant.1
 
 pub loop-symbol-preserved : goal.loop-symbol-preserved
-loop-symbol-preserved c = (
-  omega arith,
-  next_taken c.loop-symbol.taken c.loop-symbol.kept c.args.piece.now c.loop-symbol.symbol-index (omega arith) c.if-found.ensures.kept_after
-      c.if-found.ensures.value ∙ c.loop-symbol.invariant.1,
-)
+loop-symbol-preserved c =
+    let i = c.loop-symbol.symbol-index in (
+      omega arith,
+      next_taken c.loop-symbol.taken c.loop-symbol.kept c.args.piece.now i (omega arith) c.if-found.ensures.kept_after c.if-found.ensures.value
+          ∙ c.loop-symbol.invariant.1,
+    )
 
 pub returns : goal.returns
 unfolding piece_taken
 returns c =
-    ap (piece_taken (searching c.loop-symbol.taken c.loop-symbol.kept)) (sym (drop_of_length-le c.args.piece.now {i = c.loop-symbol.symbol-index} (omega arith)))
-    ∙ c.loop-symbol.invariant.1
+    let none = drop_of_length-le c.args.piece.now {i = c.loop-symbol.symbol-index} (omega arith) in
+    ap (piece_taken (searching c.loop-symbol.taken c.loop-symbol.kept)) (sym none) ∙ c.loop-symbol.invariant.1
