@@ -1,22 +1,27 @@
 -- The cases of reading, each by the tests that lead to it.
 -- Assumes nothing.
-use mathlib.Core.Path.{◌≡◌, sym}
+use mathlib.Core.Path.{◌≡◌, sym, ap, ◌∙◌}
 use mathlib.Core.List.{List, []}
-use Prim.Native.Nat.{ℕ, ◌+◌, ◌*◌, ◌-◌, ◌<◌, ◌≤◌}
-use native.Mathlib.Nat.{add-zero, add-sub_cancel_left}
+use Prim.Native.Nat.{ℕ, ◌+◌, ◌-◌, ◌<◌, ◌≤◌}
+use native.Mathlib.Nat.{add-zero, add_assoc}
 use native.Mathlib.Omega.{arith}
 use lib.ListN.{length, get_or, take, drop}
 use borrow.Author.Tests.{lt-ltb, le-ltb, le-leb, lt-leb, eq-eqb, ne_eqb}
-use Rattle.bits.specs.definitions.Bits.{value}
-use Rattle.capture.specs.declared.Read.TheVariants.{End, Refused, Order, Frame}
+use lib.Seq.{get_or-drop, get_or-take}
+use Rattle.bits.proofs.Value.{value_cong}
+use Rattle.capture.specs.definitions.Read.{End, Refused, Order, Frame}
 use Rattle.capture.specs.definitions.Capture.{layout, big_endian_at, refusal_at, refused_or, order_at, frame_at, read_at, symbols_at, wanted}
 
 module _ (s : List ℕ) (i : ℕ) where
-  -- four bytes as a number, byte by byte
-  pub big_endian_is : (a b c d : ℕ) → a ≡ get_or s i 0 → b ≡ get_or s (i + 1) 0 → c ≡ get_or s (i + 2) 0 → d ≡ get_or s (i + 3) 0
-      → ((a * 256 + b) * 256 + c) * 256 + d ≡ big_endian_at s i
-  unfolding big_endian_at value
-  big_endian_is a b c d p q r t = simp (p, q, r, t, add-zero) (omega arith)
+  -- four bytes as a number, of so many that lie from a place on
+  pub big_endian_part : (bytes k : ℕ) → k + 4 ≤ bytes → big_endian_at (take bytes (drop i s)) k ≡ big_endian_at s (i + k)
+  unfolding big_endian_at
+  big_endian_part bytes k h =
+      value_cong 256 4 _ _
+      (λ j l. get_or-take bytes (drop i s) (k + j) 0 (omega arith) ∙ get_or-drop i s (k + j) 0 ∙ ap (λ (n : ℕ). get_or s n 0) (sym (add_assoc i k j)))
+
+  pub big_endian_first : (bytes : ℕ) → 4 ≤ bytes → big_endian_at (take bytes (drop i s)) 0 ≡ big_endian_at s i
+  big_endian_first bytes h = big_endian_part bytes 0 h ∙ ap (big_endian_at s) (add-zero i)
 
   module _ (bytes kind : ℕ) where
     pub refused_short : length s - i < bytes → 6 ≡ refusal_at s i bytes kind
@@ -47,6 +52,29 @@ module _ (s : List ℕ) (i : ℕ) where
     pub frame_refused : r ≡ refusal_at s i layout.frame_bytes layout.frame_kind → (r ≡ 0 → ⊥) → Refused r ≡ frame_at s i
     unfolding frame_at refused_or
     frame_refused e n = simp (sym e, ne_eqb r 0 n)
+
+  -- as the code reads them, of a record's bytes
+  module _ (r : List ℕ) where
+    pub order_of : (x y z : ℕ) → 0 ≡ refusal_at s i layout.order_bytes layout.order_kind → r ≡ take layout.order_bytes (drop i s)
+        → x ≡ big_endian_at r layout.start_at → y ≡ big_endian_at r layout.asked_at → z ≡ big_endian_at r layout.allowed_at
+        → Order x y z (i + layout.order_bytes) ≡ order_at s i
+    unfolding order_at refused_or
+    order_of x y z e b p q t =
+        simp (
+          sym e,
+          p,
+          q,
+          t,
+          b,
+          big_endian_part layout.order_bytes layout.start_at (omega arith),
+          big_endian_part layout.order_bytes layout.asked_at (omega arith),
+          big_endian_part layout.order_bytes layout.allowed_at (omega arith),
+        )
+
+    pub frame_of : (x : ℕ) → 0 ≡ refusal_at s i layout.frame_bytes layout.frame_kind → r ≡ take layout.frame_bytes (drop i s)
+        → x ≡ big_endian_at r layout.number_at → Frame x (i + layout.symbols_from) (i + layout.frame_bytes) ≡ frame_at s i
+    unfolding frame_at refused_or
+    frame_of x e b p = simp (sym e, p, b, big_endian_part layout.frame_bytes layout.number_at (omega arith))
 
   pub order_read : (x y z : ℕ) → 0 ≡ refusal_at s i layout.order_bytes layout.order_kind
       → x ≡ big_endian_at s (i + layout.start_at) → y ≡ big_endian_at s (i + layout.asked_at) → z ≡ big_endian_at s (i + layout.allowed_at)
@@ -105,10 +133,6 @@ module _ (s : List ℕ) (i : ℕ) where
   pub symbols_are : i + layout.symbols ≤ length s → symbols_at s i ≡ take layout.symbols (drop i s)
   unfolding symbols_at
   symbols_are h = simp (le-leb (i + layout.symbols) (length s) h)
-
-  -- as the code cuts them out
-  pub symbols_some : i + layout.symbols ≤ length s → take (i + layout.symbols - i) (drop i s) ≡ symbols_at s i
-  symbols_some h = rw add-sub_cancel_left (sym (symbols_are h))
 
 -- how many bytes to ask for
 module _ (s : List ℕ) where

@@ -12,7 +12,13 @@ use contract.Monad.{Fun}
 use denote.Triple.Clauses.{AtExit}
 use borrow.Fn.Kinds.{Dens, res_t, ended_of}
 use Rattle.bits.proofs.Fixes.{Fixes, FixesSaid}
+use Rattle.std.proofs.Common.{arith, Option, Result, Err}
+use Rattle.refusal.specs.declared.Refusal.{Refusal}
+use Rattle.refusal.specs.definitions.Refusal.{number_of}
+use Rattle.refusal.proofs.Numbers.{answer_injective}
 use Rattle.capture.specs.declared.Reader.{Reader}
+use Rattle.capture.specs.declared.Record.{Record}
+use Rattle.capture.specs.definitions.Read.{read_in}
 use Rattle.capture.specs.definitions.Capture.{read_at, symbols_at}
 use Rattle.capture.proofs.read_at.Kinds as read-kinds
 use Rattle.capture.proofs.read_at.Reads as read-reads
@@ -24,17 +30,23 @@ use Rattle.capture.proofs.wanted.Kinds as wanted-kinds
 use Rattle.capture.proofs.wanted.Reads as wanted_reads
 use Rattle.capture.proofs.read_one.Kinds as one-kinds
 use Rattle.capture.proofs.read_one.Reads as one-reads
-use Rattle.capture.specs.contracts.begin as begin
-use Rattle.capture.specs.contracts.next as next
-use Rattle.capture.specs.contracts.moved as moved
-use Rattle.capture.specs.contracts.symbols as symbols
+use Rattle.capture.specs.contracts.Reader.begin as begin
+use Rattle.capture.specs.contracts.Reader.next as next
+use Rattle.capture.specs.contracts.Reader.moved as moved
+use Rattle.capture.specs.contracts.Reader.symbols as symbols
+
+-- an answer is known by what stands there
+read_injective : (x y : Result (Option Record) Refusal) → read_in x ≡ read_in y → x ≡ y
+read_injective (Err r) (Err s) e =
+    let same : number_of r ≡ number_of s = cc in let f : ◌≡◌ {A = Result Unit Refusal} (Err r) (Err s) = answer_injective same in cc
+read_injective x y e = grind arith
 
 -- what was read, and no buffer
 pub read_at_determined : Fixes 1 read-kinds.ps read-kinds.r read-reads.Post (λ κs s t. Unit)
-read_at_determined κs a x y s t p q = (p ∙ sym q, tt)
+read_at_determined κs a x y s t p q = (read_injective x y (p ∙ sym q), tt)
 
 pub read_one_determined : Fixes 1 one-kinds.ps one-kinds.r one-reads.Post (λ κs s t. Unit)
-read_one_determined κs a x y s t p q = (p ∙ sym q, tt)
+read_one_determined κs a x y s t p q = (read_injective x y (p ∙ sym q), tt)
 
 -- the content of the part
 pub symbols_at_determined : (κs : Lfts 1) (a : Dens κs symbols-kinds.ps) (x y : (res_t symbols-kinds.r κs).Denot)
@@ -62,7 +74,8 @@ module _ {M : Type 1} {𝓤 : Ura M} (𝓛 : Logic 𝓤) (mem : Memory → SProp
       ((λ r s. (r.capture ≡ a.0) × (r.place ≡ 0)), (λ x s. refl), (λ x y s t p q. alike (p.0 ∙ sym q.0) (p.1 ∙ sym q.1)))
 
   pub next_determined : FixesSaid 𝓤 next.ended (next.clauses 𝓛 mem run) (λ κs x y s t. x ≡ y)
-  next_determined κs a g = ((λ r s. r ≡ read_at a.0.capture.now a.0.place), (λ x s. refl), (λ x y s t p q. p ∙ sym q))
+  next_determined κs a g =
+      ((λ r s. read_in r ≡ read_at a.0.capture.now a.0.place), (λ x s. refl), (λ x y s t p q. read_injective x y (p ∙ sym q)))
 
   pub moved_determined : FixesSaid 𝓤 moved.ended (moved.clauses 𝓛 mem run) (λ κs x y s t. x ≡ y)
   moved_determined κs a g =

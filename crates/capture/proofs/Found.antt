@@ -1,15 +1,15 @@
 -- What stands in the capture where a record is read: the cases the other way round.
 -- Assumes nothing.
-use mathlib.Core.Path.{◌≡◌, refl, sym, ◌∙◌, subst}
+use mathlib.Core.Path.{◌≡◌, refl, sym, subst}
 use mathlib.Core.List.{List}
 use Prim.Native.Nat.{ℕ, ◌+◌, ◌-◌, ◌<◌, ◌≤◌}
 use native.Mathlib.Decide.{dec_lt, ℕ_discrete}
 use native.Mathlib.Omega.{arith}
 use lib.ListN.{length, get_or}
-use Rattle.capture.specs.declared.Read.{Read}
-use Rattle.capture.specs.declared.Read.TheVariants.{End, Refused, Order, Frame}
+use Rattle.std.proofs.lemmas.Bool.Decides.{nat_tests}
+use Rattle.capture.specs.definitions.Read.{Read, End, Refused, Order, Frame}
 use Rattle.capture.specs.definitions.Capture.{layout, big_endian_at, refusal_at, order_at, frame_at, read_at}
-use Rattle.capture.proofs.Cases.{refused_short, refused_version, refused_kind, not_refused_lem, order_refused, frame_refused, order_read, frame_read, at_end}
+use Rattle.capture.proofs.Cases.{order_refused, frame_refused, order_read, frame_read, at_end}
 use Rattle.capture.proofs.Cases.{no_length, an_order, a_frame, no_lawful}
 
 -- a whole record of so many bytes and of this kind
@@ -20,19 +20,8 @@ pub record Whole (s : List ℕ) (i bytes k : ℕ) : Type 0 where
 
 module _ (s : List ℕ) (i : ℕ) where
   pub whole : (bytes kind : ℕ) → refusal_at s i bytes kind ≡ 0 → Whole s i bytes kind
-  whole bytes kind e =
-      go (dec_lt (length s - i) bytes) (ℕ_discrete (get_or s (i + layout.version_at) 0) layout.version) (ℕ_discrete (get_or s (i + layout.kind_at) 0) kind)
-    where
-      go : Dec (length s - i < bytes) → Dec (get_or s (i + layout.version_at) 0 ≡ layout.version) → Dec (get_or s (i + layout.kind_at) 0 ≡ kind)
-          → Whole s i bytes kind
-      go (yes h) v k = let z : ◌≡◌ {A = ℕ} 6 0 = refused_short s i bytes kind h ∙ e in absurd (omega arith)
-      go (no h) (no v) k = let z : ◌≡◌ {A = ℕ} 8 0 = refused_version s i bytes kind (omega arith) v ∙ e in absurd (omega arith)
-      go (no h) (yes v) (no k) = let z : ◌≡◌ {A = ℕ} 9 0 = refused_kind s i bytes kind (omega arith) v k ∙ e in absurd (omega arith)
-      go (no h) (yes v) (yes k) = record { inside = omega arith; version = v; kind = k }
-
-  -- it has room for each of its numbers
-  pub room : (bytes kind k : ℕ) → refusal_at s i bytes kind ≡ 0 → k + 4 ≤ bytes → i + k + 4 ≤ length s
-  room bytes kind k e l = let h = whole bytes kind e in omega arith
+  unfolding refusal_at
+  whole bytes kind e = grind (arith, nat_tests)
 
 -- an order, or a frame, with the numbers that it says
 pub record OrderStands (s : List ℕ) (i start asked allowed next : ℕ) : Type 0 where
@@ -59,15 +48,8 @@ Stands s i (Frame number from next) = FrameStands s i number from next
 
 module _ (s : List ℕ) (i : ℕ) where
   refusal_range : (bytes kind : ℕ) → (refusal_at s i bytes kind ≡ 0 → ⊥) → (6 ≤ refusal_at s i bytes kind) × (refusal_at s i bytes kind ≤ 9)
-  refusal_range bytes kind n =
-      go (dec_lt (length s - i) bytes) (ℕ_discrete (get_or s (i + layout.version_at) 0) layout.version) (ℕ_discrete (get_or s (i + layout.kind_at) 0) kind)
-    where
-      go : Dec (length s - i < bytes) → Dec (get_or s (i + layout.version_at) 0 ≡ layout.version) → Dec (get_or s (i + layout.kind_at) 0 ≡ kind)
-          → (6 ≤ refusal_at s i bytes kind) × (refusal_at s i bytes kind ≤ 9)
-      go (yes h) v k = let e = refused_short s i bytes kind h in (omega arith, omega arith)
-      go (no h) (no v) k = let e = refused_version s i bytes kind (omega arith) v in (omega arith, omega arith)
-      go (no h) (yes v) (no k) = let e = refused_kind s i bytes kind (omega arith) v k in (omega arith, omega arith)
-      go (no h) (yes v) (yes k) = absurd (n (sym (not_refused_lem s i bytes kind (omega arith) v k)))
+  unfolding refusal_at
+  refusal_range bytes kind n = grind (arith, nat_tests)
 
   order_stands : big_endian_at s i ≡ layout.order_length → Stands s i (order_at s i)
   unfolding Stands

@@ -8,13 +8,13 @@ use Prim.Native.Nat.{ℕ, ◌+◌, ◌-◌, ◌<◌, ◌≤◌}
 use native.Mathlib.Nat.{add-zero, zero-add, add_assoc, sub-zero}
 use native.Mathlib.Decide.{dec_le, dec_lt, ℕ_discrete}
 use native.Mathlib.Omega.{arith}
-use lib.Dec.{eqb, ltb, leb}
+use lib.Dec.{leb}
+use Rattle.std.proofs.lemmas.Bool.Decides.{nat_tests}
 use lib.ListN.{length, get_or, take, drop, length-drop, length-append, take-append-drop, get_or-append}
 use lib.Seq.{get_or-drop, drop-drop, drop-append-le, take-append-le, length-take-le, take_all}
 use borrow.Author.Tests.{le-ltb, le-leb, lt-leb}
 use Rattle.bits.proofs.Value.{value_cong}
-use Rattle.capture.specs.declared.Read.{Read}
-use Rattle.capture.specs.declared.Read.TheVariants.{Refused}
+use Rattle.capture.specs.definitions.Read.{Read, Refused}
 use Rattle.capture.specs.definitions.Capture.{layout, big_endian_at, refusal_at, refused_or, order_at, frame_at, read_at, shifted, symbols_at, wanted}
 use Rattle.capture.specs.statements.Local.{ReadsFromHere, ReadsWithMore, WantedReads, WantedAlike, ReadLocal}
 use Rattle.capture.proofs.Cases.{refused_short, order_refused, frame_refused, at_end, no_length, an_order, a_frame, no_lawful, symbols_none, symbols_are}
@@ -209,15 +209,7 @@ wanted_reads s = (
 -- at least the length is wanted, and at most a frame's record
 pub wanted_bounds : (s : List ℕ) → (layout.length_bytes ≤ wanted s) × (wanted s ≤ layout.frame_bytes)
 unfolding wanted
-wanted_bounds s = go (ltb (length s) layout.length_bytes) (eqb (big_endian_at s 0) layout.order_length) (eqb (big_endian_at s 0) layout.frame_length)
-  where
-    go : (x y z : Bool)
-        → (layout.length_bytes ≤ cond x layout.length_bytes (cond y layout.order_bytes (cond z layout.frame_bytes layout.length_bytes)))
-        × (cond x layout.length_bytes (cond y layout.order_bytes (cond z layout.frame_bytes layout.length_bytes)) ≤ layout.frame_bytes)
-    go true y z = (omega arith, omega arith)
-    go false true z = (omega arith, omega arith)
-    go false false true = (omega arith, omega arith)
-    go false false false = (omega arith, omega arith)
+wanted_bounds s = grind (arith, nat_tests)
 
 pub wanted_alike : WantedAlike
 unfolding wanted

@@ -5,44 +5,31 @@ use mathlib.Core.Bool.{Bool, true, false, false≢true, cond, ◌&&◌}
 use mathlib.Core.Logic.{◌⊎◌, inl, inr}
 use mathlib.Core.List.{List}
 use Prim.Native.Nat.{ℕ, ◌<◌, ◌≤◌}
-use native.Mathlib.Decide.{dec_lt}
 use native.Mathlib.Omega.{arith}
 use lib.Dec.{ltb}
 use lib.ListN.{length, take, length-take}
-use borrow.Author.Tests.{lt-ltb, le-ltb}
-use Rattle.capture.specs.declared.Read.{Read}
-use Rattle.capture.specs.declared.Read.TheVariants.{End, Refused, Order, Frame}
+use Rattle.std.proofs.lemmas.Bool.Decides.{nat_tests}
+use Rattle.capture.specs.declared.Record.{Record}
+use Rattle.capture.specs.declared.Record.TheVariants as found
+use Rattle.capture.specs.definitions.Read.{record_in, Read, End, Refused, Order, Frame}
 use Rattle.capture.specs.definitions.Capture.{read_at, next_of, more_than_one, more, read_one, wanted}
-use Rattle.capture.proofs.Found.{Stands, stands}
+use Rattle.capture.proofs.Found.{Stands, stands, order_found, frame_found}
 use Rattle.capture.proofs.Local.{wanted_reads}
-
-more_is : (read : Read) (bytes : ℕ) → 0 < next_of read 0 → next_of read 0 < bytes → more read bytes ≡ true
-more_is read bytes h k = rw (lt-ltb 0 (next_of read 0) h, lt-ltb (next_of read 0) bytes k) refl
-
-no_more : (read : Read) (bytes : ℕ) → (next_of read 0 ≡ 0) ⊎ (bytes ≤ next_of read 0) → more read bytes ≡ false
-no_more read bytes (inl z) = rw z refl
-no_more read bytes (inr h) = go (ltb 0 (next_of read 0)) (le-ltb (next_of read 0) bytes h)
-  where
-    go : (b : Bool) → ltb (next_of read 0) bytes ≡ false → b && ltb (next_of read 0) bytes ≡ false
-    go true e = e
-    go false e = refl
 
 -- bytes with nothing more behind what stands at their beginning
 pub one_alone : (s : List ℕ) → (next_of (read_at s 0) 0 ≡ 0) ⊎ (length s ≤ next_of (read_at s 0) 0) → read_one s ≡ read_at s 0
 unfolding read_one
-one_alone s h = rw (no_more (read_at s 0) (length s) h) refl
+one_alone s h = grind (arith, nat_tests)
 
-pub one_more : (s : List ℕ) → 0 < next_of (read_at s 0) 0 → next_of (read_at s 0) 0 < length s → read_one s ≡ Refused more_than_one
+-- a record never ends where it begins
+pub record_more : (s : List ℕ) (x : Record) → record_in x ≡ read_at s 0 → next_of (record_in x) 0 < length s → read_one s ≡ Refused more_than_one
 unfolding read_one
-one_more s h k = rw (more_is (read_at s 0) (length s) h k) refl
+record_more s (found.Order start asked allowed next) e h = let n = (order_found s 0 (sym e)).next_is in rw (← e) (grind (arith, nat_tests))
+record_more s (found.Frame number from next) e h = let n = (frame_found s 0 (sym e)).next_is in rw (← e) (grind (arith, nat_tests))
 
 -- a record that ends in the bytes, and not before them, ends with them
 ends : {bytes : ℕ} (next : ℕ) → ltb 0 next && ltb next bytes ≡ false → (0 < next) × (next ≤ bytes) → bytes ≡ next
-ends {bytes} next m h = go (dec_lt next bytes)
-  where
-    go : Dec (next < bytes) → bytes ≡ next
-    go (yes k) = absurd (false≢true (sym m ∙ rw (lt-ltb 0 next h.0, lt-ltb next bytes k) refl))
-    go (no k) = let l = h.1 in omega arith
+ends next m h = grind (arith, nat_tests)
 
 -- refused or not
 unfoldable pub is_refused : Read → Bool

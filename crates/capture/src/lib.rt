@@ -1,9 +1,13 @@
 // Capture records, and what stands at a place of a lent capture. The symbols are handed back as the part of the capture where they lie, never copied.
 #![tactic(auto)]
 
-ghost use Rattle.std.specs.Prelude.{◌≡◌, ◌+◌, ◌<◌, ◌≤◌, length};
+ghost use Rattle.std.specs.Prelude.{◌≡◌, ◌+◌, ◌<◌, ◌≤◌, None, Some, Ok, IfOk, length, take, drop, if◌then◌else◌, nat_lt};
+ghost use Rattle.refusal.specs.definitions.Refusal.{answer_of};
+ghost use Rattle.capture.specs.definitions.Read.{record_in, read_in};
 ghost use Rattle.capture.specs.definitions.Capture.{layout, big_endian_at, refusal_at, order_at, frame_at, read_at, next_of, read_one};
 ghost use Rattle.capture.specs.definitions.Capture.{symbols_at, wanted};
+
+use refusal::Refusal;
 
 // A record's length comes first: its bytes, and the two lengths that are admitted.
 const LENGTH_BYTES: usize = 4;
@@ -42,14 +46,9 @@ const SYMBOLS: usize = 6144;
 // The longest record.
 pub const FRAME_BYTES: usize = 6154;
 
-// The refusal of more bytes than one record.
-const MORE_THAN_ONE: u32 = 22;
-
-// What stands at a place: the end, a refusal by its number, an order, or a frame with the place from which its symbols lie; and the next place.
-#[derive(Clone, Copy)]
-pub enum Read {
-    End,
-    Refused(u32),
+// A record: an order, or a frame with the place from which its symbols lie; and the place behind it.
+#[derive(Clone, Copy, Debug, PartialEq, Eq)]
+pub enum Record {
     Order {
         start: u32,
         asked: u32,
@@ -63,194 +62,176 @@ pub enum Read {
     },
 }
 
-// The four bytes from a place on as a number, big-endian.
-fn big_endian_at(capture: &[u8], place: usize) -> u32
-    requires { place + 4 ≤ length capture.now }
-    ensures { result ≡ big_endian_at capture.now place }
-{
-    let a = bits::wide8(capture[place]);
-    let b = bits::wide8(capture[place + 1]);
-    let c = bits::wide8(capture[place + 2]);
-    let d = bits::wide8(capture[place + 3]);
-    let n = ((a * 256 + b) * 256 + c) * 256 + d;
-    n as u32
+impl Record {
+    // The place behind it.
+    pub fn next(&self) -> usize
+        ensures { result ≡ next_of (record_in self.now) 0 }
+    {
+        match *self {
+            Record::Order { next, .. } | Record::Frame { next, .. } => next,
+        }
+    }
 }
 
-// What refuses a record of a lawful length: cut short, another version, another kind; else 0.
-fn refusal_at(capture: &[u8], place: usize, bytes: usize, kind: u8) -> u32
-    requires { (place ≤ length capture.now) × (layout.kind_at < bytes) }
-    ensures { result ≡ refusal_at capture.now place bytes kind }
+// The number of the four bytes from a place on, big-endian.
+#[tactic(auto, unfolding(crate::specs::definitions::Capture::big_endian_at, bits::specs::definitions::Bits::value))]
+fn big_endian_at(bytes: &[u8], place: usize) -> u32
+    requires { place + 4 ≤ length bytes.now }
+    ensures { result ≡ big_endian_at bytes.now place }
 {
-    if capture.len() - place < bytes {
-        return 6;
+    u32::from_be_bytes([
+        bytes[place],
+        bytes[place + 1],
+        bytes[place + 2],
+        bytes[place + 3],
+    ])
+}
+
+// A record's length, which comes first, if it is there.
+#[tactic(auto, unfolding(crate::specs::definitions::Capture::big_endian_at, bits::specs::definitions::Bits::value))]
+fn length_of(bytes: &[u8]) -> Option<u32>
+    ensures { result ≡ (if nat_lt (length bytes.now) 4 then None else Some (big_endian_at bytes.now 0)) }
+{
+    bytes.first_chunk().map(|first| u32::from_be_bytes(*first))
+}
+
+// The bytes of a record of a lawful length. Refused: cut short, another version, another kind.
+#[tactic(auto, unfolding(crate::specs::definitions::Capture::refusal_at))]
+fn record_at<const N: usize>(capture: &[u8], place: usize, kind: u8) -> Result<&[u8; N], Refusal>
+    requires { layout.kind_at < N }
+    ensures refusal { answer_of result ≡ refusal_at capture.now place N kind }
+    ensures bytes { IfOk result (λ bytes. bytes.now ≡ take N (drop place capture.now)) }
+{
+    let bytes = capture.get(place..).ok_or(Refusal::CutShort)?;
+    let record = bytes.first_chunk().ok_or(Refusal::CutShort)?;
+    if record[VERSION_AT] != VERSION {
+        return Err(Refusal::Version);
     }
-    if capture[place + VERSION_AT] != VERSION {
-        return 8;
+    if record[KIND_AT] != kind {
+        return Err(Refusal::Kind);
     }
-    if capture[place + KIND_AT] != kind {
-        return 9;
-    }
-    0
+    Ok(record)
 }
 
 // A record of the length of an order.
-fn order_at(capture: &[u8], place: usize) -> Read
-    requires { place ≤ length capture.now }
-    ensures { result ≡ order_at capture.now place }
+#[tactic(auto, unfolding(crate::specs::definitions::Capture::order_at, crate::specs::definitions::Capture::refused_or))]
+fn order_at(capture: &[u8], place: usize) -> Result<Option<Record>, Refusal>
+    ensures { read_in result ≡ order_at capture.now place }
 {
-    let refusal = refusal_at(capture, place, ORDER_BYTES, ORDER_KIND);
-    if refusal != 0 {
-        return Read::Refused(refusal);
-    }
-    let start = big_endian_at(capture, place + START_AT);
-    let asked = big_endian_at(capture, place + ASKED_AT);
-    let allowed = big_endian_at(capture, place + ALLOWED_AT);
-    Read::Order {
-        start,
-        asked,
-        allowed,
+    let record = record_at::<ORDER_BYTES>(capture, place, ORDER_KIND)?;
+    Ok(Some(Record::Order {
+        start: big_endian_at(record, START_AT),
+        asked: big_endian_at(record, ASKED_AT),
+        allowed: big_endian_at(record, ALLOWED_AT),
         next: place + ORDER_BYTES,
-    }
+    }))
 }
 
 // A record of the length of a frame.
-fn frame_at(capture: &[u8], place: usize) -> Read
-    requires { place ≤ length capture.now }
-    ensures { result ≡ frame_at capture.now place }
+#[tactic(auto, unfolding(crate::specs::definitions::Capture::frame_at, crate::specs::definitions::Capture::refused_or))]
+fn frame_at(capture: &[u8], place: usize) -> Result<Option<Record>, Refusal>
+    ensures { read_in result ≡ frame_at capture.now place }
 {
-    let refusal = refusal_at(capture, place, FRAME_BYTES, FRAME_KIND);
-    if refusal != 0 {
-        return Read::Refused(refusal);
-    }
-    let number = big_endian_at(capture, place + NUMBER_AT);
-    Read::Frame {
-        number,
+    let record = record_at::<FRAME_BYTES>(capture, place, FRAME_KIND)?;
+    Ok(Some(Record::Frame {
+        number: big_endian_at(record, NUMBER_AT),
         from: place + SYMBOLS_FROM,
         next: place + FRAME_BYTES,
-    }
+    }))
 }
 
-// What stands at a place of a capture; any place is lawful, also one beyond the end.
-pub fn read_at(capture: &[u8], place: usize) -> Read
-    ensures { result ≡ read_at capture.now place }
+// What stands at a place of a capture: nothing at the end, else a record. Any place is lawful, also one beyond the end.
+#[tactic(auto, using(crate::proofs::Cases::big_endian_first), unfolding(crate::specs::definitions::Capture::read_at))]
+pub fn read_at(capture: &[u8], place: usize) -> Result<Option<Record>, Refusal>
+    ensures { read_in result ≡ read_at capture.now place }
 {
     if capture.len() <= place {
-        return Read::End;
+        return Ok(None);
     }
-    if capture.len() - place < LENGTH_BYTES {
-        return Read::Refused(6);
+    match length_of(&capture[place..]).ok_or(Refusal::CutShort)? {
+        ORDER_LENGTH => order_at(capture, place),
+        FRAME_LENGTH => frame_at(capture, place),
+        _ => Err(Refusal::Length),
     }
-    let length = big_endian_at(capture, place);
-    if length == ORDER_LENGTH {
-        return order_at(capture, place);
-    }
-    if length == FRAME_LENGTH {
-        return frame_at(capture, place);
-    }
-    Read::Refused(7)
 }
 
 // A frame's symbols, as the part of the lent capture where they lie; an empty part where fewer bytes are left.
+#[tactic(auto, unfolding(crate::specs::definitions::Capture::symbols_at))]
 pub fn symbols_at(capture: &[u8], from: usize) -> &[u8]
     ensures { result.now ≡ symbols_at capture.now from }
 {
-    if capture.len() < SYMBOLS {
-        return &capture[..0];
-    }
-    if capture.len() - SYMBOLS < from {
-        return &capture[..0];
-    }
-    let end = from + SYMBOLS;
-    &capture[from..end]
+    let Some(behind) = capture.get(from..) else {
+        return &[];
+    };
+    behind.get(..SYMBOLS).unwrap_or(&[])
 }
 
 // How many bytes of a record to ask for, by those that are there: its length first, then all of it.
+#[tactic(auto, unfolding(crate::specs::definitions::Capture::wanted))]
 pub fn wanted(piece: &[u8]) -> usize
     ensures { result ≡ wanted piece.now }
 {
-    if piece.len() < LENGTH_BYTES {
-        return LENGTH_BYTES;
+    match length_of(piece) {
+        Some(ORDER_LENGTH) => ORDER_BYTES,
+        Some(FRAME_LENGTH) => FRAME_BYTES,
+        _ => LENGTH_BYTES,
     }
-    let length = big_endian_at(piece, 0);
-    if length == ORDER_LENGTH {
-        return ORDER_BYTES;
-    }
-    if length == FRAME_LENGTH {
-        return FRAME_BYTES;
-    }
-    LENGTH_BYTES
 }
 
 // The place after what was read: neither the end nor a refusal moves it.
-pub fn next_place(read: Read, place: usize) -> usize
-    ensures { result ≡ next_of read place }
+pub fn next_place(read: Result<Option<Record>, Refusal>, place: usize) -> usize
+    ensures { result ≡ next_of (read_in read) place }
 {
     match read {
-        Read::End => place,
-        Read::Refused(_) => place,
-        Read::Order {
-            start: _,
-            asked: _,
-            allowed: _,
-            next,
-        } => next,
-        Read::Frame {
-            number: _,
-            from: _,
-            next,
-        } => next,
+        Ok(Some(record)) => record.next(),
+        _ => place,
     }
 }
 
 // The one record that these bytes are: where more stands behind it they are refused, so that nothing is passed over.
-pub fn read_one(piece: &[u8]) -> Read
-    ensures { result ≡ read_one piece.now }
+#[tactic(auto, unfolding(crate::specs::definitions::Capture::read_one))]
+pub fn read_one(piece: &[u8]) -> Result<Option<Record>, Refusal>
+    ensures { read_in result ≡ read_one piece.now }
 {
-    let read = read_at(piece, 0);
-    let next = next_place(read, 0);
-    if next == 0 {
-        return read;
+    match read_at(piece, 0)? {
+        Some(found) if found.next() < piece.len() => Err(Refusal::MoreThanOne),
+        read => Ok(read),
     }
-    if next < piece.len() {
-        return Read::Refused(MORE_THAN_ONE);
-    }
-    read
 }
 
 // A reader walks over one lent capture and keeps its place.
-#[derive(Clone, Copy)]
+#[derive(Clone, Copy, Debug)]
 pub struct Reader<'a> {
     pub capture: &'a [u8],
     pub place: usize,
 }
 
-// A reader at the beginning of a capture.
-pub fn begin<'a>(capture: &'a [u8]) -> Reader<'a>
-    ensures { (result.capture ≡ capture.entry) × (result.place ≡ 0) }
-{
-    Reader { capture, place: 0 }
-}
-
-// What stands at its place.
-pub fn next<'a>(r: Reader<'a>) -> Read
-    ensures { result ≡ read_at r.entry.capture.now r.entry.place }
-{
-    read_at(r.capture, r.place)
-}
-
-// The reader at another place.
-pub fn moved<'a>(r: Reader<'a>, place: usize) -> Reader<'a>
-    ensures { (result.capture ≡ r.entry.capture) × (result.place ≡ place) }
-{
-    Reader {
-        capture: r.capture,
-        place,
+impl<'a> Reader<'a> {
+    // A reader at the beginning of a capture.
+    pub fn begin(capture: &'a [u8]) -> Reader<'a>
+        ensures { (result.capture ≡ capture.entry) × (result.place ≡ 0) }
+    {
+        Reader { capture, place: 0 }
     }
-}
 
-// A frame's symbols, as a part of the capture that the reader was lent.
-pub fn symbols<'a>(r: Reader<'a>, from: usize) -> &'a [u8]
-    ensures { result.now ≡ symbols_at r.entry.capture.now from }
-{
-    symbols_at(r.capture, from)
+    // What stands at its place.
+    pub fn next(self) -> Result<Option<Record>, Refusal>
+        ensures { read_in result ≡ read_at self.entry.capture.now self.entry.place }
+    {
+        read_at(self.capture, self.place)
+    }
+
+    // The reader at another place.
+    pub fn moved(self, place: usize) -> Reader<'a>
+        ensures { (result.capture ≡ self.entry.capture) × (result.place ≡ place) }
+    {
+        Reader { place, ..self }
+    }
+
+    // A frame's symbols, as a part of the capture that the reader was lent.
+    pub fn symbols(self, from: usize) -> &'a [u8]
+        ensures { result.now ≡ symbols_at self.entry.capture.now from }
+    {
+        symbols_at(self.capture, from)
+    }
 }

@@ -3,8 +3,7 @@
 -- Assumes nothing.
 use Rattle.std.specs.Prelude.{Bool, cond, ◌&&◌, List, [], ◌∷◌, ◌++◌, ℕ, zero, suc, ◌+◌, ◌-◌, ◌/◌, ◌%◌, ◌^◌, length, get_or, take, drop, eqb, ltb, leb}
 use Rattle.bits.specs.definitions.Bits.{tabulate, value}
-use Rattle.capture.specs.declared.Read.{Read}
-use Rattle.capture.specs.declared.Read.TheVariants.{End, Refused, Order, Frame}
+use Rattle.capture.specs.definitions.Read.{Read, End, Refused, Order, Frame}
 
 -- how a record lies in bytes: what each `At` and `From` names stands so far behind the record's first byte
 pub record Layout : Type 0 where

@@ -1,8 +1,7 @@
 -- What stands at a place, by example: the order of 01 (account and verdict), and each rule of the paragraph under the refusal list at its edge.
 -- Assumes nothing.
 use Rattle.std.specs.Prelude.{List, [], ◌∷◌, ℕ, ◌+◌, length, replicate}
-use Rattle.capture.specs.declared.Read.{Read}
-use Rattle.capture.specs.declared.Read.TheVariants.{End, Refused, Order, Frame}
+use Rattle.capture.specs.definitions.Read.{Read, End, Refused, Order, Frame}
 
 -- bytes, a place, and what stands there
 pub record Example : Type 0 where

@@ -1,7 +1,7 @@
 -- A record reads the same by itself, so a program that holds one record at a time walks the capture (01, account and verdict); `proofs/Local` proves it.
 -- Assumes nothing.
 use Rattle.std.specs.Prelude.{◌≡◌, ◌≢◌, List, ◌++◌, ℕ, ◌+◌, ◌≤◌, length, take, drop}
-use Rattle.capture.specs.declared.Read.TheVariants.{End, Refused, Order, Frame}
+use Rattle.capture.specs.definitions.Read.{End, Refused, Order, Frame}
 use Rattle.capture.specs.definitions.Capture.{layout, read_at, shifted, symbols_at, wanted}
 
 -- what stands at a place is what stands at the beginning of the part from there on: what lies before it does not matter

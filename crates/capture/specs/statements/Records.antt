@@ -2,7 +2,7 @@
 -- Assumes nothing.
 use Rattle.std.specs.Prelude.{◌≡◌, List, ◌++◌, ℕ, ◌+◌, ◌*◌, ◌^◌, ◌<◌, length, drop}
 use Rattle.bits.specs.definitions.Bits.{AllBytes}
-use Rattle.capture.specs.declared.Read.TheVariants.{Order, Frame}
+use Rattle.capture.specs.definitions.Read.{Order, Frame}
 use Rattle.capture.specs.definitions.Capture.{layout, read_at, symbols_at, order_record, frame_record, frame_records}
 
 -- an order's record, with anything behind it, reads as that order
