@@ -357,24 +357,6 @@ lane_step f {n} {out₀} L p e part w F q le is agree =
     let next : e ≡ L * (p + 1) = q ∙ sym (rw (add-one, mul-suc)) in
     subst (Filling f n out₀ _) next (part_step f e L part w F q le is agree)
 
--- byte i of five masks over and over, from m on
-abbrev pub mask_at : List ℕ → ℕ → ℕ → ℕ
-mask_at masks m i = get_or masks (m + i % 5) 0
-
--- a step that copies them once more
-pub mask_step : (masks : List ℕ) (m b e t : ℕ) (part : List ℕ) {out₀ out : List ℕ} → Filling (mask_at masks m) 80 out₀ out (5 * b)
-    → (e ≡ 5 * b + 5) × (e ≤ 80) × (t ≡ m + 5) × (t ≤ length masks) → part ≡ take (t - m) (drop m masks)
-    → Filling (mask_at masks m) 80 out₀ (take (5 * b) out ++ (part ++ drop (e - 5 * b) (drop (5 * b) out))) (5 * (b + 1))
-mask_step masks m b e t part F h is = lane_step (mask_at masks m) 5 b e part (λ k. get_or masks (m + k) 0) F h.0 h.1 whole agree
-  where
-    whole : part ≡ tabulate 5 (λ k. get_or masks (m + k) 0)
-    whole =
-        is ∙ is_tabulate 0 (take (t - m) (drop m masks)) 5 _ (simp (length-take, length-drop) (omega arith))
-        (λ k l. get_or-take (t - m) (drop m masks) k 0 (omega arith) ∙ get_or-drop m masks k 0)
-
-    agree : (k : ℕ) → k < 5 → get_or masks (m + k) 0 ≡ get_or masks (m + (5 * b + k) % 5) 0
-    agree k l = let d : k ≡ (5 * b + k) % 5 = omega arith in ap (λ (j : ℕ). get_or masks (m + j) 0) d
-
 -- byte i of the blocks of a lane whose numbers are from 0, from 1, ..
 abbrev pub moved_byte : List ℕ → (ℕ → ℕ) → ℕ → ℕ
 moved_byte z from i = block_byte z (from (i / 5)) (i % 5)
