@@ -9,11 +9,10 @@ use native.Mathlib.Omega.{arith}
 use lib.Arith.{digits_div, digits_mod}
 use lib.ListN.{length, get_or, set, take, drop, replicate, get_or-eq_default}
 use lib.Seq.{get_or-take, get_or-drop}
-use Rattle.std.proofs.lemmas.List.{get_or-replicate, length-replicate}
 use native.Mathlib.Decide.{dec_lt}
 use lib.Bits.{bit_or}
 use Rattle.std.specs.Prelude.{fold}
-use Rattle.std.proofs.lemmas.List.{set-get_or}
+use Rattle.std.proofs.lemmas.List.{get_or-replicate, length-replicate, set-get_or}
 use Rattle.bits.specs.definitions.Bits.{tabulate}
 use Rattle.bits.specs.definitions.Words.{word_at, half_of, row_of}
 use Rattle.bits.proofs.Filling.{Filling, filling_start, filling_step, filling_rest, filling_done}
@@ -43,6 +42,7 @@ joined_zero a (x ∷ xs) e =
     at e f zero h = e
     at e f (suc i) h = f i (le_of_suc-le-suc h)
 
+-- and there it is 0
 pub zeros_joined : (xs : List ℕ) → ((i : ℕ) → i < length xs → get_or xs i 0 ≡ 0) → fold bit_or 0 xs ≡ 0
 zeros_joined [] h = refl
 zeros_joined (x ∷ xs) h = ap (λ (n : ℕ). fold bit_or (bit_or 0 n) xs) (h 0 (omega arith)) ∙ zeros_joined xs (λ i l. h (suc i) (omega arith))
@@ -63,7 +63,7 @@ pub part_at : (xs : List ℕ) (a b j : ℕ) → a + j < b → get_or (take (b - 
 part_at xs a b j h = get_or-take (b - a) (drop a xs) j 0 (omega arith) ∙ get_or-drop a xs j 0
 
 -- a word that is not reached yet
-pub plain_rest : (f : ℕ → ℕ) {n : ℕ} {s₀ s : List ℕ} {i : ℕ} → Rewriting f n s₀ s i → (k : ℕ) → i ≤ k → plain_at s k ≡ plain_at s₀ k
+plain_rest : (f : ℕ → ℕ) {n : ℕ} {s₀ s : List ℕ} {i : ℕ} → Rewriting f n s₀ s i → (k : ℕ) → i ≤ k → plain_at s k ≡ plain_at s₀ k
 unfolding plain_at
 plain_rest f R k h =
     ap₂ (λ (x y : ℕ). x * 2 ^ 64 + y) (filling_rest (half_of f) (2 * k) 0 R.numbers (omega arith))
