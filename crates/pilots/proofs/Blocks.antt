@@ -81,6 +81,7 @@ closed_at s j e l h = closed s j (omega (arith, counts_at s 32 j e l))
 abbrev pub IsFirst : (ℕ → Bool) → ℕ → Option ℕ → Type 0
 IsFirst p n r = MatchOption r ((k : ℕ) → k < n → p k ≡ false) (λ o. (o < n) × (p o ≡ true) × ((k : ℕ) → k < o → p k ≡ false))
 
+-- a number is below a, or it is not
 from_two : {P : Type 0} (k a : ℕ) → (k < a → P) → (a ≤ k → P) → P
 from_two {P} k a before behind = go (ltb k a) refl
   where
@@ -89,10 +90,12 @@ from_two {P} k a before behind = go (ltb k a) refl
     go false t = behind (ltb-false k a t)
 
 module _ (p : ℕ → Bool) (n : ℕ) where
+  -- such a number is the one that the contracts name
   pub found : (r : Option ℕ) → IsFirst p n r → r ≡ below n (least p n)
   found (Some o) h = rw (least_is p n o (omega arith) (λ l. h.1) h.2, lt-ltb o n h.0)
   found None h = rw (least_is p n n (omega arith) (λ l. absurd (omega arith)) h, le-ltb n n (omega arith))
 
+  -- and the one that they name is such a number
   pub found_is : (r : Option ℕ) → r ≡ below n (least p n) → IsFirst p n r
   found_is r e = subst (IsFirst p n) (sym e) (go (ltb (least p n) n) refl)
     where
@@ -125,9 +128,11 @@ block_closed s {right} e h =
 
 -- ---- a block of a run: its first 128 offsets are those of the run from o on
 module _ (s chunk : List ℕ) (o m : ℕ) (h : IsFirstChunk (take m (drop o s)) chunk 6271) where
+  -- it lies within the run
   block_fits : o + 6271 ≤ length s
   block_fits = omega (arith, h.enough, length-take m (drop o s), length-drop o s)
 
+  -- and locks where the run does
   block_locks : (j : ℕ) → j < 128 → locks chunk j ≡ locks s (o + j)
   block_locks j l =
       locks_alike chunk j s (o + j) (omega (arith, ap length h.same ∙ length-take-le 6271 (take m (drop o s)) h.enough)) (omega (arith, block_fits))

@@ -25,6 +25,7 @@ pub as_number : (b : Bool) → from_bool b ≡ cond b 1 0
 as_number true = refl
 as_number false = refl
 
+-- which is 1 at most
 pub at_most_one : (b : Bool) → from_bool b ≤ 1
 at_most_one b = rw (as_number b) (one b)
   where
@@ -32,6 +33,7 @@ at_most_one b = rw (as_number b) (one b)
     one true = omega arith
     one false = omega arith
 
+-- the table has 96 bytes
 pub pilots_length : length pilots ≡ 96
 unfolding pilots
 pilots_length = refl
@@ -73,10 +75,12 @@ module _ (s : List ℕ) (o : ℕ) where
   lock h = lt-ltb _ lock_limit h
 
 -- ---- from an offset on, or what stands there by itself
+-- a symbol is there, counted from the start or from the offset
 bounds : (o m n : ℕ) → ltb (0 + m) (n - o) ≡ ltb (o + m) n
 bounds o m n = grind (arith, nat_tests)
 
 module _ (s : List ℕ) (o : ℕ) where
+  -- the same pilots are met
   met_drop : (i : ℕ) → met (drop o s) 0 i ≡ met s o i
   unfolding met
   met_drop i = ap₂ (λ (x y : Bool). x && y) there same
@@ -87,6 +91,7 @@ module _ (s : List ℕ) (o : ℕ) where
       same : eqb (get_or (drop o s) (0 + 64 * i) 0) (get_or pilots i 0) ≡ eqb (get_or s (o + 64 * i) 0) (get_or pilots i 0)
       same = ap (λ (x : ℕ). eqb x (get_or pilots i 0)) (ap (λ (k : ℕ). get_or (drop o s) k 0) (zero-add (64 * i)) ∙ get_or-drop o s (64 * i) 0)
 
+  -- and the same offset locks
   pub locks_drop : locks (drop o s) 0 ≡ locks s o
   unfolding locks wrong_pilots
   locks_drop = ap (λ (n : ℕ). ltb n lock_limit) (count_cong 96 _ _ (λ i h. ap not (met_drop i)))
