@@ -10,6 +10,7 @@ use native.Mathlib.Decide.{dec_lt}
 use native.Mathlib.Omega.{arith}
 use lib.Dec.{eqb, ltb}
 use lib.ListN.{length}
+use Rattle.std.specs.Array.{IsWholeChunk}
 use borrow.Author.Tests.{lt-ltb, le-ltb}
 use Rattle.bits.specs.definitions.Bits.{tabulate, bit_at, count}
 use Rattle.bits.specs.definitions.Call.{unless}
@@ -19,11 +20,11 @@ use Rattle.bits.proofs.Tabulate.{tabulate_cong}
 use Rattle.lanes.specs.definitions.Stream.{stream_bit}
 use Rattle.lanes.proofs.Stream.{stream_cut}
 use Rattle.traffic.specs.definitions.Register.{seed, state_after, bit_from, traffic_bit}
-use Rattle.traffic.specs.definitions.Traffic.{placed, traffic_from, Continues}
+use Rattle.traffic.specs.definitions.Traffic.{placed, traffic_from}
 use Rattle.traffic.specs.definitions.Checker.{wrong_bit, wrong_counts, Checks}
-use Rattle.traffic.specs.private.Counting.{differs, StartOf}
+use Rattle.traffic.specs.private.Counting.{differs}
 use Rattle.traffic.specs.statements.Checker.{Compared, CountsExactly, ChecksExist}
-use Rattle.traffic.proofs.Frames.{placed_later, from_placed, continues_left, stream_placed}
+use Rattle.traffic.proofs.Frames.{placed_later, from_placed, stream_placed}
 
 -- ---- a call of the checker: refused, done, and what it leaves
 
@@ -67,22 +68,22 @@ behind_fill zero fill i F hi h = absurd (omega arith)
 behind_fill (suc zero) fill i F hi h = let e = F.first refl in omega arith
 behind_fill (suc (suc f)) fill i F hi h = let e = F.later (omega arith) in omega arith
 
-start_is : (f start : ℕ) → StartOf f start → 320 * (132 * f - 144) ≡ start
-start_is zero start S = sym (S.first (omega arith))
-start_is (suc zero) start S = sym (S.first (omega arith))
-start_is (suc (suc f)) start S = omega (arith, S.later (omega arith))
-
 -- ---- bits and counts
 
-module _ (f fill start : ℕ) (lanes sent : List ℕ) (F : FillOf f fill) (S : StartOf f start) (is : sent ≡ traffic_from (state_after start)) where
+-- what is sent in frame f begins here in the stream, or at its beginning
+abbrev pub start : ℕ → ℕ
+start f = 42240 * f - 46080
+
+module _ (f fill : ℕ) (lanes sent : List ℕ) (F : FillOf f fill) (is : sent ≡ traffic_from (state_after (start f))) where
   -- behind the fill it is what was sent 1,440 bits before
   sent_bit_lem : (p i : ℕ) → p < 32 → i < 1320 → 1440 ≤ 1320 * f + i → bit_at sent (1320 * p + (i - 8 * fill)) ≡ placed traffic_bit p (1320 * f + i - 1440)
   sent_bit_lem p i hp hi h =
       let b = behind_fill f fill i F hi h in
       let m : ℕ = 132 * f - 144 in
       let k : ℕ = i - 8 * fill in
+      let s : start f ≡ 320 * (132 * f - 144) = omega arith in
       ap (λ (l : List ℕ). bit_at l (1320 * p + k)) is
-      ∙ from_placed (state_after start) p k hp (omega arith) ∙ ap (λ (n : ℕ). placed (bit_from (state_after n)) p k) (sym (start_is f start S))
+      ∙ from_placed (state_after (start f)) p k hp (omega arith) ∙ ap (λ (n : ℕ). placed (bit_from (state_after n)) p k) s
       ∙ sym (placed_later seed p m k) ∙ ap (placed traffic_bit p) b.1
 
   differs_wrong : (p i : ℕ) → p < 32 → i < 1320 → differs fill lanes sent p i ≡ wrong_bit f lanes p i
@@ -101,12 +102,11 @@ module _ (f fill start : ℕ) (lanes sent : List ℕ) (F : FillOf f fill) (S : S
   counts_wrong = tabulate_cong 32 _ _ (λ p hp. count_cong 1320 _ _ (λ i hi. differs_wrong p i hp hi))
 
 -- and so a call that compares with the frame from the right state on counts them
-pub checks_counted : {f fill start state r state' : ℕ} (lanes c sent₀ : List ℕ) {sent c' : List ℕ} → length lanes ≡ 5280 → length c ≡ 32 → FillOf f fill
-    → StartOf f start → state ≡ state_after start → length sent₀ ≡ 5280 → Continues state sent₀ r state' sent
-    → c' ≡ tabulate 32 (λ p. count (differs fill lanes sent p) 1320) → Checks f lanes c 0 c'
-checks_counted {f} {fill} {start} {state} {r} {state'} lanes c sent₀ {sent} {c'} hl hc F S e lent C counted =
-    let is = (continues_left state sent₀ r state' sent lent C).2 ∙ ap traffic_from e in
-    checks_done f lanes c c' hl hc (counted ∙ counts_wrong f fill start lanes sent F S is)
+pub checks_counted : {f fill : ℕ} (lanes c : List ℕ) {lent sent c' : List ℕ} → IsWholeChunk lanes lent 5280 → length c ≡ 32 → FillOf f fill
+    → sent ≡ traffic_from (state_after (start f)) → c' ≡ tabulate 32 (λ p. count (differs fill lent sent p) 1320) → Checks f lanes c 0 c'
+checks_counted {f} {fill} lanes c {lent} {sent} {c'} whole hc F is counted =
+    checks_done f lanes c c' whole.long hc
+    (counted ∙ ap (λ (l : List ℕ). tabulate 32 (λ p. count (differs fill l sent p) 1320)) whole.same ∙ counts_wrong f fill lanes sent F is)
 
 pub what_is_compared : Compared
 what_is_compared = (

@@ -13,7 +13,7 @@ use Rattle.bits.proofs.Table.{each, range_rule}
 use Rattle.bits.proofs.Xor.{xor_assoc, xor_four, xor_cancel_r}
 use Rattle.bits.proofs.Sums.{sum_at, sum_xor, sum_cong, sum_empty, sum_none, sum_one, sum_rest, linear_agree}
 use Rattle.traffic.specs.definitions.Register.{entering, next_state, state_from}
-use Rattle.traffic.specs.private.Stream.{AsFar}
+use Rattle.traffic.specs.private.Stream.{terms_of, AsFar}
 use Rattle.traffic.proofs.Register.{next_xor, from_xor, from_lt, from_add, window}
 
 -- ---- the register's rule over states: the state 31 bits on is the sum of the one three bits on and this one
@@ -37,10 +37,7 @@ rule =
     (λ x y. ap (λ (z : ℕ). bit_xor z (bit_xor x y)) (from_xor x y 3) ∙ xor_four (state_from x 3) (state_from y 3) x y)
     (λ i h. eqb→eq _ _ (range_rule rule_ok 31 0 rule_test i zero-le h))
 
--- ---- the terms of a state: which of the first 31 states behind 1 it is the sum of. These are 1, 2, 4 to 2^27, 2^28 + 1, 2^29 + 2 and 2^30 + 4
-
-abbrev pub terms_of : ℕ → ℕ
-terms_of a = bit_xor a (a / 2 ^ 28)
+-- ---- the terms of a state
 
 pub terms_xor : (a b : ℕ) → terms_of (bit_xor a b) ≡ bit_xor (terms_of a) (terms_of b)
 terms_xor a b = ap (bit_xor (bit_xor a b)) (xor_shr a b 28) ∙ xor_four a b (a / 2 ^ 28) (b / 2 ^ 28)
@@ -99,7 +96,7 @@ module _ (s : ℕ) (h : s < 2 ^ 31) where
       ap (λ (x : ℕ). sum_at 31 (state_from s) (terms_of (next_state x))) (sym (terms_back (state_from 1 n) one))
       ∙ terms_step (terms_of (state_from 1 n)) (terms_lt (state_from 1 n) one) ∙ ap next_state (far n)
 
--- ---- `while i < 31 { sum = sum ^ ((terms >> i) % 2 * f i); i += 1 }`
+-- ---- `for i in 0..31 { sum ^= (terms >> i) % 2 * f i }`
 
 pub picked_lt : (b y : ℕ) → b < 2 → y < 2 ^ 31 → b * y < 2 ^ 31
 picked_lt zero y h l = omega arith
@@ -108,7 +105,6 @@ picked_lt (suc (suc b)) y h l = absurd (omega arith)
 
 -- sum is that of the first i terms: with the others it is the whole
 pub record Summing (f : ℕ → ℕ) (terms sum i : ℕ) : Type 0 where
-  pub upto : i ≤ 31
   pub fits : sum < 2 ^ 31
   pub is : bit_xor sum (sum_at (31 - i) (λ j. f (i + j)) (terms / 2 ^ i)) ≡ sum_at 31 f terms
 
@@ -116,7 +112,6 @@ module _ (f : ℕ → ℕ) (terms : ℕ) where
   pub summing_start : Summing f terms 0 0
   summing_start =
       record {
-        upto = zero-le;
         fits = lit< tt;
         is = sum_cong 31 (λ j. f (0 + j)) f (terms / 1) (λ j _. ap f (zero-add j)) ∙ ap (sum_at 31 f) (div-one terms);
       }
@@ -124,7 +119,6 @@ module _ (f : ℕ → ℕ) (terms : ℕ) where
   pub summing_step : {sum i y : ℕ} → Summing f terms sum i → i < 31 → y ≡ f i → y < 2 ^ 31 → Summing f terms (bit_xor sum (terms / 2 ^ i % 2 * y)) (i + 1)
   summing_step {sum} {i} {y} S h e l =
       record {
-        upto = omega arith;
         fits = xor_lt 31 sum (terms / 2 ^ i % 2 * y) S.fits (picked_lt (terms / 2 ^ i % 2) y (omega arith) l);
         is =
             xor_assoc sum (terms / 2 ^ i % 2 * y) rest

@@ -1,21 +1,21 @@
--- A stream's words in lanes: the windows that `row_groups` reads, blocks put down one after the other, the frame that they make, and the state behind it.
+-- A stream's words in lanes: the windows that `row` reads, blocks put down one after the other, the frame that they make, and the state behind it.
 -- Assumes nothing.
 use mathlib.Core.Path.{◌≡◌, sym, ap, ap₂, ◌∙◌}
-use mathlib.Core.List.{List}
+use mathlib.Core.List.{List, []}
 use Prim.Native.Nat.{ℕ, ◌+◌, ◌*◌, ◌-◌, ◌/◌, ◌%◌, ◌^◌, ◌<◌}
 use native.Mathlib.Nat.{mod-eq_of_lt}
 use native.Mathlib.Decide.{dec_lt}
 use native.Mathlib.Omega.{arith}
 use lib.ListN.{length, get_or}
 use Rattle.bits.specs.definitions.Bits.{number, bit_of, bit_at}
-use Rattle.bits.proofs.Tabulate.{length_tabulate, get_d_tabulate}
-use Rattle.bits.proofs.Value.{value_cong, value_low, bit_lt, bit_number, number_bits}
+use Rattle.bits.proofs.Tabulate.{get_d_tabulate}
+use Rattle.bits.proofs.Value.{value_lt, value_cong, value_low, bit_lt, bit_number, number_bits}
 use Rattle.bits.proofs.Fields.{is_bytes}
 use Rattle.lanes.specs.definitions.Permutation.{lane_bytes}
 use Rattle.traffic.specs.definitions.Register.{state_from, bit_from}
 use Rattle.traffic.specs.definitions.Traffic.{placed, traffic_from}
 use Rattle.traffic.specs.private.Stream.{stream_word, Streams}
-use Rattle.traffic.specs.private.Lanes.{words_bit, window_at, groups_of, BlocksPut, Placed}
+use Rattle.traffic.specs.private.Lanes.{words_bit, window_at, row_of, rows_of, BlocksPut, Placed}
 use Rattle.traffic.proofs.Register.{sent_lt, sent_number, from_lt, from_add, bit_add}
 use Rattle.traffic.proofs.Windows.{window_number}
 
@@ -51,7 +51,7 @@ module _ (words : List ℕ) (fits : (k : ℕ) → get_or words k 0 < 2 ^ 64) whe
       here : (q : ℕ) → 64 * k + (r + q) ≡ 64 * k + r + q
       here q = omega arith
 
-  -- what `row_groups` stores for group m of row s
+  -- what `row` stores for group m of row s
   pub group_at : (s m : ℕ)
       → (get_or words (5 * s + 5 * m / 8) 0 * 2 ^ 64 + get_or words (5 * s + 5 * m / 8 + 1) 0) / 2 ^ (64 - 40 * m % 64) % 2 ^ 64
       ≡ window_at words (320 * s + 40 * m)
@@ -61,35 +61,32 @@ module _ (words : List ℕ) (fits : (k : ℕ) → get_or words k 0 < 2 ^ 64) whe
 
 -- ---- blocks put down
 
-pub groups_length : (words : List ℕ) (i : ℕ) → length (groups_of words i) ≡ 32
-unfolding groups_of
-groups_length words i = length_tabulate 32 _
+pub placed_start : (words lanes : List ℕ) → Placed words 0 lanes
+placed_start words lanes = record { bytes = λ h. omega arith; bit = λ p i hp hi. omega arith }
 
-pub placed_start : (words lanes : List ℕ) → length lanes ≡ 5280 → Placed words 0 lanes
-placed_start words lanes e = record { long = e; bytes = λ h. omega arith; bit = λ p i hp hi. omega arith }
+-- bit q of group m of row j of block i
+group_bit : (words : List ℕ) (i j m q : ℕ) → j < 4 → m < 8 → q < 64
+    → bit_of 64 (get_or (get_or (rows_of words i) j []) m 0) q ≡ words_bit words (320 * (4 * i + j) + 40 * m + q)
+unfolding rows_of row_of window_at
+group_bit words i j m q hj hm hq =
+    ap (λ (l : List ℕ). bit_of 64 (get_or l m 0) q) (get_d_tabulate 4 (λ j. row_of words (4 * i + j)) j [] hj)
+    ∙ ap (λ (x : ℕ). bit_of 64 x q) (get_d_tabulate 8 (λ m. window_at words (320 * (4 * i + j) + 40 * m)) m 0 hm)
+    ∙ bit_number 64 (λ q. words_bit words (320 * (4 * i + j) + 40 * m + q)) (λ q _. words_lt words (320 * (4 * i + j) + 40 * m + q)) q hq
 
--- bit q of group m of block i
-group_bit : (words : List ℕ) (i m q : ℕ) → m < 32 → q < 64 → bit_of 64 (get_or (groups_of words i) m 0) q ≡ words_bit words (1280 * i + 40 * m + q)
-unfolding groups_of window_at
-group_bit words i m q hm hq =
-    ap (λ (x : ℕ). bit_of 64 x q) (get_d_tabulate 32 _ m 0 hm)
-    ∙ bit_number 64 (λ q. words_bit words (1280 * i + 40 * m + q)) (λ q _. words_lt words (1280 * i + 40 * m + q)) q hq
-
-pub placed_step : {words groups l l' : List ℕ} {i : ℕ} → Placed words i l → groups ≡ groups_of words i → BlocksPut groups i 32 l l'
+pub placed_step : {words l l' : List ℕ} {rows : List (List ℕ)} {i : ℕ} → Placed words i l → rows ≡ rows_of words i → BlocksPut rows i 32 l l'
     → Placed words (i + 1) l'
 unfolding placed
-placed_step {words} {groups} {l} {l'} {i} P g B =
-    record { long = B.long ∙ P.long; bytes = λ _. B.bytes (omega arith); bit = λ p j hp hj. bit p j hp hj (dec_lt j (40 * i)) }
+placed_step {words} {l} {l'} {rows} {i} P g B = record { bytes = λ _. B.bytes (omega arith); bit = λ p j hp hj. bit p j hp hj (dec_lt j (40 * i)) }
   where
     bit : (p j : ℕ) → p < 32 → j < 40 * (i + 1) → Dec (j < 40 * i) → bit_at l' (1320 * p + j) ≡ placed (words_bit words) p j
     bit p j hp hj (yes b) = B.kept p j hp b ∙ P.bit p j hp b
     bit p j hp hj (no b) =
         let s : ℕ = j / 10 - 4 * i in
         let a : 1320 * p + j ≡ 1320 * p + 40 * i + 10 * s + j % 10 = omega arith in
-        let e : 1280 * i + 40 * (8 * s + p / 4) + (10 * (p % 4) + j % 10) ≡ 320 * (j / 10) + 10 * p + j % 10 = omega arith in
+        let e : 320 * (4 * i + s) + 40 * (p / 4) + (10 * (p % 4) + j % 10) ≡ 320 * (j / 10) + 10 * p + j % 10 = omega arith in
         ap (bit_at l') a ∙ B.here p s (j % 10) hp (omega arith) (omega arith)
-        ∙ ap (λ (x : List ℕ). bit_of 64 (get_or x (8 * s + p / 4) 0) (10 * (p % 4) + j % 10)) g
-        ∙ group_bit words i (8 * s + p / 4) (10 * (p % 4) + j % 10) (omega arith) (omega arith) ∙ ap (words_bit words) e
+        ∙ ap (λ (x : List (List ℕ)). bit_of 64 (get_or (get_or x s []) (p / 4) 0) (10 * (p % 4) + j % 10)) g
+        ∙ group_bit words i s (p / 4) (10 * (p % 4) + j % 10) (omega arith) (omega arith) (omega arith) ∙ ap (words_bit words) e
 
 -- ---- a frame of the stream
 
@@ -102,9 +99,9 @@ module _ {s : ℕ} {words : List ℕ} where
       ap (λ (x : ℕ). bit_of 64 x (i % 64)) (S.word (i / 64) (omega arith))
       ∙ bit_number 64 (λ q. bit_from s (64 * (i / 64) + q)) (λ q _. sent_lt (state_from s (64 * (i / 64) + q))) (i % 64) (omega arith) ∙ ap (bit_from s) e
 
-  pub lanes_frame : {lanes : List ℕ} → Placed words 33 lanes → Streams s 660 words → lanes ≡ traffic_from s
+  pub lanes_frame : {lanes : List ℕ} → length lanes ≡ 5280 → Placed words 33 lanes → Streams s 660 words → lanes ≡ traffic_from s
   unfolding traffic_from lane_bytes placed
-  lanes_frame {lanes} P S = is_bytes 5280 _ lanes (P.bytes (omega arith)) P.long bit
+  lanes_frame {lanes} long P S = is_bytes 5280 _ lanes (P.bytes (omega arith)) long bit
     where
       bit : (j : ℕ) → j < 8 * 5280 → bit_at lanes j ≡ placed (bit_from s) (j / 1320) (j % 1320)
       bit j h =
@@ -112,9 +109,12 @@ module _ {s : ℕ} {words : List ℕ} where
           ap (bit_at lanes) e ∙ P.bit (j / 1320) (j % 1320) (omega arith) (omega arith) ∙ stream_bit_lem S (omega arith)
 
   -- the last 31 bits sent are the state behind them, inverted
-  pub last_state : s < 2 ^ 31 → Streams s 660 words → 2 ^ 31 - 1 - get_or words 659 0 % 2 ^ 31 ≡ state_from s 42240
+  pub last_state : s < 2 ^ 31 → Streams s 660 words → (2 ^ 64 - 1 - get_or words 659 0) % 2 ^ 31 ≡ state_from s 42240
   unfolding stream_word
-  last_state h S = let b : state_from s 42240 < 2 ^ 31 = from_lt s 42240 h in omega (arith, low)
+  last_state h S =
+      let b : state_from s 42240 < 2 ^ 31 = from_lt s 42240 h in
+      let l : get_or words 659 0 < 2 ^ 64 = rw (S.word 659 (omega arith)) (value_lt 2 64 (λ q. bit_from s (64 * 659 + q)) (λ q _. sent_lt _)) in
+      omega (arith, low)
     where
       bit : (q : ℕ) → bit_from s (64 * 659 + (33 + q)) ≡ bit_from (state_from s 42209) q
       bit q = let e : 64 * 659 + (33 + q) ≡ 42209 + q = omega arith in ap (bit_from s) e ∙ bit_add s 42209 q

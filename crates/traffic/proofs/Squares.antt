@@ -3,17 +3,17 @@
 use mathlib.Core.Path.{◌≡◌, sym, ap, ap₂, ◌∙◌}
 use mathlib.Core.Bool.{Bool}
 use Prim.Native.Nat.{ℕ, ◌+◌, ◌*◌, ◌/◌, ◌%◌, ◌^◌, ◌<◌, zero-le}
-use native.Mathlib.Nat.{add_comm}
+use native.Mathlib.Nat.{add_comm, mod-lt, lt_of_le_of_lt}
 use native.Mathlib.Omega.{arith}
 use lib.Dec.{T, eqb, eqb→eq, lit<}
-use lib.Bits.{bit_and, bit_xor, xor_self, xor_shr, xor_mod}
+use lib.Bits.{bit_and, bit_xor, xor_lt, xor_self, xor_shr, xor_mod, and_le_r}
 use Rattle.bits.proofs.Table.{each, range_rule}
 use Rattle.bits.proofs.Xor.{xor_assoc, xor_four, xor_cancel, xor_shl, and_xor}
 use Rattle.bits.proofs.Sums.{sum_at, sum_xor, sum_both, sum_cong, sum_none, sum_one, sums_linear, linear_agree}
 use Rattle.traffic.specs.definitions.Register.{entering, next_state, state_from}
-use Rattle.traffic.specs.private.Stream.{parted_of, spread_of, reduced_of, Doubled}
-use Rattle.traffic.proofs.Register.{from_xor, from_lt, from_add}
-use Rattle.traffic.proofs.Jumping.{terms_of, terms_xor, terms_back, terms_lt, far}
+use Rattle.traffic.specs.private.Stream.{terms_of, parted_of, spread_of, reduced_of, Doubled}
+use Rattle.traffic.proofs.Register.{from_xor, from_add}
+use Rattle.traffic.proofs.Jumping.{terms_xor, terms_back, terms_lt, far}
 
 -- ---- what is computed is linear
 
@@ -124,21 +124,37 @@ product_square =
 
 -- ---- twice as far
 
-pub doubled_law : (a : ℕ) {x y z : ℕ} → a < 2 ^ 31 → x ≡ spread_of (terms_of a) → y ≡ reduced_of x → z ≡ reduced_of y → Doubled a (terms_of z)
+pub doubled_law : (a : ℕ) {t x y z r : ℕ} → a < 2 ^ 31 → t ≡ terms_of a → x ≡ spread_of t → y ≡ reduced_of x → z ≡ reduced_of y → r ≡ terms_of z → Doubled a r
 unfolding square_of
-doubled_law a h ex ey ez =
+doubled_law a h et ex ey ez er =
     record {
       twice =
           λ n e.
-          ap terms_of (ez ∙ ap reduced_of (ey ∙ ap reduced_of ex))
+          er ∙ ap terms_of (ez ∙ ap reduced_of (ey ∙ ap reduced_of (ex ∙ ap spread_of et)))
           ∙ sym (square_sum (terms_of a) (terms_lt a h)) ∙ product_square (terms_of a) (terms_lt a h)
           ∙ ap (λ (s : ℕ). sum_at 31 (state_from s) (terms_of a)) (terms_back a h)
           ∙ ap (λ (s : ℕ). sum_at 31 (state_from a) (terms_of s)) e ∙ far a h n
           ∙ ap (λ (s : ℕ). state_from s n) e ∙ sym (from_add 1 n n);
     }
 
-pub twice_lt : (n : ℕ) {a r : ℕ} → a ≡ state_from 1 n → Doubled a r → r < 2 ^ 31
-twice_lt n e D = rw (D.twice n e) (from_lt 1 (n + n) (lit< tt))
+-- whichever state it is, what is computed is one
+pub doubled_lt : (t : ℕ) {x y z r : ℕ} → x ≡ spread_of t → y ≡ reduced_of x → z ≡ reduced_of y → r ≡ terms_of z → r < 2 ^ 31
+unfolding spread_of parted_of reduced_of
+doubled_lt t {x} {y} {z} ex ey ez er =
+    rw er
+    (terms_lt z
+    (rw ez
+    (xor_lt 31 (bit_xor (y % 2 ^ 31) (y / 2 ^ 31)) (y / 2 ^ 31 * 2 ^ 3 % 2 ^ 64)
+    (xor_lt 31 (y % 2 ^ 31) (y / 2 ^ 31) (mod-lt y (lit< tt)) (omega (arith, small))) (omega (arith, small)))))
+  where
+    least : x < 2 ^ 63
+    least = rw ex (lt_of_le_of_lt (and_le_r _ 0x5555555555555555) (lit< tt))
+
+    small : y < 2 ^ 35
+    small =
+        rw ey
+        (xor_lt 35 (bit_xor (x % 2 ^ 31) (x / 2 ^ 31)) (x / 2 ^ 31 * 2 ^ 3 % 2 ^ 64) (xor_lt 35 (x % 2 ^ 31) (x / 2 ^ 31) (omega arith) (omega (arith, least)))
+        (omega (arith, least)))
 
 -- and one more where it is odd
 pub twice_far : (n : ℕ) {a r : ℕ} → a ≡ state_from 1 (n / 2) → Doubled a r → state_from r (n % 2) ≡ state_from 1 n

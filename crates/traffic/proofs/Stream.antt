@@ -81,7 +81,7 @@ module _ (s m d : ℕ) (h : s < 2 ^ 31) (R : Rule d) where
       g : ℕ → ℕ
       g q = bit_from s (m + q)
 
--- ---- the first word, `while j < 4 { state = ahead(state, 16); word = word * 65536 + (65535 - state % 65536); j += 1 }`
+-- ---- the first word, four times `state = state.ahead(16); word = word * 65536 + (65535 - state.bits % 65536)`
 
 pub sixteen : (s j : ℕ) {word state : ℕ} → word ≡ number (16 * j) (bit_from s) → state ≡ state_from (state_from s (16 * j)) 16
     → word * 65536 + (65535 - state % 65536) ≡ number (16 * (j + 1)) (bit_from s)

@@ -3,18 +3,19 @@
 use mathlib.Core.Path.{◌≡◌, refl, sym, ap, ap₂, ◌∙◌}
 use mathlib.Core.Bool.{cond}
 use mathlib.Core.Logic.{◌⊎◌, inl, inr}
+use mathlib.Core.List.{List, [], ◌∷◌}
 use Prim.Native.Nat.{ℕ, zero, suc, ◌+◌, ◌*◌, ◌-◌, ◌/◌, ◌%◌, ◌^◌, ◌≤◌, ◌<◌, zero-le}
 use native.Mathlib.Nat.{sub-add_cancel, lt_of_le_of_lt}
 use native.Mathlib.Decide.{dec_lt}
 use native.Mathlib.Omega.{arith}
 use lib.Dec.{eqb, eqb→eq}
+use lib.ListN.{get_or}
 use lib.Bits.{bit_and, bit_xor, differ, xor_comm, and_le_r}
 use Rattle.bits.specs.definitions.Bits.{bit_of}
 use Rattle.bits.proofs.Table.{range_rule}
 use Rattle.bits.proofs.Xor.{bit_cases}
 use Rattle.bits.proofs.Value.{bit_lt, bit_xor_lem, bit_and_lem, bit_shl, bit_shr, bit_shr_none}
-use Rattle.traffic.specs.declared.Four.{Four}
-use Rattle.traffic.specs.private.Lanes.{Lower, Upper, Turned, pick}
+use Rattle.traffic.specs.private.Lanes.{Exchanged, Turned}
 
 -- `x ^ ((x ^ y) & m)` on bits
 chosen : (x y m : ℕ) → x < 2 → y < 2 → m < 2 → differ x (bit_and (differ x y) m) ≡ cond (eqb m 1) y x
@@ -37,22 +38,18 @@ chosen_bit x y m q =
     ∙ ap (differ (bit_of 64 x q)) (bit_and_lem 64 (bit_xor x y) m q ∙ ap (λ (d : ℕ). bit_and d (bit_of 64 m q)) (bit_xor_lem 64 x y q))
     ∙ chosen (bit_of 64 x q) (bit_of 64 y q) (bit_of 64 m q) (bit_lt 64 x q) (bit_lt 64 y q) (bit_lt 64 m q)
 
-pub upper_law : (a b n mask : ℕ) → Upper a b n mask (bit_xor b (bit_and (bit_xor (a * 2 ^ n % 2 ^ 64) b) mask))
-upper_law a b n mask =
-    record {
-      bits = λ q h.
-          ap (λ (x : ℕ). bit_of 64 (bit_xor b (bit_and x mask)) q) (xor_comm (a * 2 ^ n % 2 ^ 64) b) ∙ chosen_bit b (a * 2 ^ n % 2 ^ 64) mask q
-          ∙ ap (λ (x : ℕ). cond (eqb (bit_of 64 mask q) 1) x (bit_of 64 b q)) (bit_shl 64 a n q h);
-    }
-
-pub lower_law : (a b n mask : ℕ) → mask < 2 ^ 64 → Lower a b n mask (bit_xor a (bit_and (bit_xor (a * 2 ^ n % 2 ^ 64) b) mask / 2 ^ n))
-lower_law a b n mask small =
+pub exchanged_law : (a b n mask : ℕ) → mask < 2 ^ 64
+    → Exchanged a b n mask (bit_xor a (bit_and (bit_xor (a * 2 ^ n % 2 ^ 64) b) mask / 2 ^ n)) (bit_xor b (bit_and (bit_xor (a * 2 ^ n % 2 ^ 64) b) mask))
+exchanged_law a b n mask small =
     record {
       first = λ q h.
           bit_xor_lem 64 a (w / 2 ^ n) q
           ∙ ap (differ (bit_of 64 a q)) (bit_shr_none 64 w n q (lt_of_le_of_lt (and_le_r (bit_xor s b) mask) small) h)
           ∙ differ_zero (bit_of 64 a q);
       rest = λ q l h. bit_xor_lem 64 a (w / 2 ^ n) q ∙ rest q l h;
+      other = λ q h.
+          ap (λ (x : ℕ). bit_of 64 (bit_xor b (bit_and x mask)) q) (xor_comm s b) ∙ chosen_bit b s mask q
+          ∙ ap (λ (x : ℕ). cond (eqb (bit_of 64 mask q) 1) x (bit_of 64 b q)) (bit_shl 64 a n q h);
     }
   where
     s : ℕ
@@ -90,19 +87,19 @@ record Alone (n mask q : ℕ) : Type 0 where
   before : n ≤ q → bit_of 64 mask (q - n) ≡ 0
 
 -- there the two numbers exchange bits: new number s has, n behind q or not, what old number t had, n behind q or not
-module _ {a b n mask l u : ℕ} (L : Lower a b n mask l) (U : Upper a b n mask u) (q : ℕ) (h : q + n + n < 64) (A : Alone n mask q) where
-  exchanged : (s t : ℕ) → s < 2 → t < 2 → bit_of 64 (two l u s) (q + n * t) ≡ bit_of 64 (two a b t) (q + n * s)
-  exchanged s t hs ht = rw (← place n q t ht, ← place n q s hs) (bits s t)
+module _ {a b n mask r t : ℕ} (E : Exchanged a b n mask r t) (q : ℕ) (h : q + n + n < 64) (A : Alone n mask q) where
+  exchanged : (i j : ℕ) → i < 2 → j < 2 → bit_of 64 (two r t i) (q + n * j) ≡ bit_of 64 (two a b j) (q + n * i)
+  exchanged i j hi hj = rw (← place n q j hj, ← place n q i hi) (bits i j)
     where
-      first : Dec (q < n) → bit_of 64 l q ≡ bit_of 64 a q
-      first (yes l) = L.first q l
-      first (no l) = rw (A.before (omega arith)) at (L.rest q (omega arith) (omega arith))
+      first : Dec (q < n) → bit_of 64 r q ≡ bit_of 64 a q
+      first (yes l) = E.first q l
+      first (no l) = rw (A.before (omega arith)) at (E.rest q (omega arith) (omega arith))
 
-      bits : (s t : ℕ) → bit_of 64 (two l u s) (two q (q + n) t) ≡ bit_of 64 (two a b t) (two q (q + n) s)
+      bits : (i j : ℕ) → bit_of 64 (two r t i) (two q (q + n) j) ≡ bit_of 64 (two a b j) (two q (q + n) i)
       bits zero zero = first (dec_lt q n)
-      bits zero (suc t) = let e : q + n - n ≡ q = omega arith in rw (e, A.at) at (L.rest (q + n) (omega arith) (omega arith))
-      bits (suc s) zero = rw A.at at (U.bits q (omega arith))
-      bits (suc s) (suc t) = rw A.behind at (U.bits (q + n) h)
+      bits zero (suc j) = let e : q + n - n ≡ q = omega arith in rw (e, A.at) at (E.rest (q + n) (omega arith) (omega arith))
+      bits (suc i) zero = rw A.at at (E.other q (omega arith))
+      bits (suc i) (suc j) = rw A.behind at (E.other (q + n) h)
 
 -- the masks, and their bits
 abbrev half : ℕ
@@ -132,34 +129,36 @@ even_alone q h l =
     }
 
 -- one of four by two
-pick_two : (a b c d k : ℕ) → k < 4 → pick a b c d k ≡ two (two a b (k % 2)) (two c d (k % 2)) (k / 2)
-pick_two a b c d zero h = refl
-pick_two a b c d (suc zero) h = refl
-pick_two a b c d (suc (suc zero)) h = refl
-pick_two a b c d (suc (suc (suc zero))) h = refl
-pick_two a b c d (suc (suc (suc (suc k)))) h = absurd (omega arith)
+one_of_four : (l : List ℕ) (k : ℕ) → k < 4 → get_or l k 0 ≡ two (two (get_or l 0 0) (get_or l 1 0) (k % 2)) (two (get_or l 2 0) (get_or l 3 0) (k % 2)) (k / 2)
+one_of_four l zero h = refl
+one_of_four l (suc zero) h = refl
+one_of_four l (suc (suc zero)) h = refl
+one_of_four l (suc (suc (suc zero))) h = refl
+one_of_four l (suc (suc (suc (suc k)))) h = absurd (omega arith)
 
 -- halves exchanged, and then symbols of a half
-module _ {a b c d e f g h : ℕ} {r : Four} (ac : Lower a c 20 half e) (bd : Lower b d 20 half f) (ac' : Upper a c 20 half g) (bd' : Upper b d 20 half h)
-    (ef : Lower e f 10 even r.a) (ef' : Upper e f 10 even r.b) (gh : Lower g h 10 even r.c) (gh' : Upper g h 10 even r.d) where
-  halves : (s t k q : ℕ) → s < 2 → t < 2 → q < 20
-      → bit_of 64 (two (two e f k) (two g h k) s) (q + 20 * t) ≡ bit_of 64 (two (two a b k) (two c d k) t) (q + 20 * s)
-  halves s t zero q hs ht l = exchanged ac ac' q (omega arith) (half_alone q l) s t hs ht
-  halves s t (suc k) q hs ht l = exchanged bd bd' q (omega arith) (half_alone q l) s t hs ht
+module _ (groups : List ℕ) {e f g h i j k l : ℕ} (ac : Exchanged (get_or groups 0 0) (get_or groups 2 0) 20 half e g)
+    (bd : Exchanged (get_or groups 1 0) (get_or groups 3 0) 20 half f h) (ef : Exchanged e f 10 even i j) (gh : Exchanged g h 10 even k l) where
+  halves : (s t p q : ℕ) → s < 2 → t < 2 → q < 20
+      → bit_of 64 (two (two e f p) (two g h p) s) (q + 20 * t)
+      ≡ bit_of 64 (two (two (get_or groups 0 0) (get_or groups 1 0) p) (two (get_or groups 2 0) (get_or groups 3 0) p) t) (q + 20 * s)
+  halves s t zero q hs ht b = exchanged ac q (omega arith) (half_alone q b) s t hs ht
+  halves s t (suc p) q hs ht b = exchanged bd q (omega arith) (half_alone q b) s t hs ht
 
-  symbols : (s t k q : ℕ) → s < 2 → t < 2 → q < 30 → q % 20 < 10
-      → bit_of 64 (two (two r.a r.b s) (two r.c r.d s) k) (q + 10 * t) ≡ bit_of 64 (two (two e f t) (two g h t) k) (q + 10 * s)
-  symbols s t zero q hs ht l m = exchanged ef ef' q (omega arith) (even_alone q l m) s t hs ht
-  symbols s t (suc k) q hs ht l m = exchanged gh gh' q (omega arith) (even_alone q l m) s t hs ht
+  symbols : (s t p q : ℕ) → s < 2 → t < 2 → q < 30 → q % 20 < 10
+      → bit_of 64 (two (two i j s) (two k l s) p) (q + 10 * t) ≡ bit_of 64 (two (two e f t) (two g h t) p) (q + 10 * s)
+  symbols s t zero q hs ht b m = exchanged ef q (omega arith) (even_alone q b m) s t hs ht
+  symbols s t (suc p) q hs ht b m = exchanged gh q (omega arith) (even_alone q b m) s t hs ht
 
-  pub turned_law : Turned a b c d r
+  pub turned_law : Turned groups (i ∷ j ∷ k ∷ l ∷ [])
   turned_law = record { symbol = symbol }
     where
-      symbol : (k j i : ℕ) → k < 4 → j < 4 → i < 10 → bit_of 64 (pick r.a r.b r.c r.d k) (10 * j + i) ≡ bit_of 64 (pick a b c d j) (10 * k + i)
-      symbol k j i hk hj hi =
-          let first : 10 * j + i ≡ 20 * (j / 2) + i + 10 * (j % 2) = omega arith in
-          let then : 20 * (j / 2) + i + 10 * (k % 2) ≡ 10 * (k % 2) + i + 20 * (j / 2) = omega arith in
-          let last : 10 * k + i ≡ 10 * (k % 2) + i + 20 * (k / 2) = omega arith in
-          rw (pick_two r.a r.b r.c r.d k hk, pick_two a b c d j hj, first, last)
-          (symbols (k % 2) (j % 2) (k / 2) (20 * (j / 2) + i) (omega arith) (omega arith) (omega arith) (omega arith)
-          ∙ rw then (halves (k / 2) (j / 2) (j % 2) (10 * (k % 2) + i) (omega arith) (omega arith) (omega arith)))
+      symbol : (p q n : ℕ) → p < 4 → q < 4 → n < 10
+          → bit_of 64 (get_or (i ∷ j ∷ k ∷ l ∷ []) p 0) (10 * q + n) ≡ bit_of 64 (get_or groups q 0) (10 * p + n)
+      symbol p q n hp hq hn =
+          let first : 10 * q + n ≡ 20 * (q / 2) + n + 10 * (q % 2) = omega arith in
+          let then : 20 * (q / 2) + n + 10 * (p % 2) ≡ 10 * (p % 2) + n + 20 * (q / 2) = omega arith in
+          let last : 10 * p + n ≡ 10 * (p % 2) + n + 20 * (p / 2) = omega arith in
+          rw (one_of_four (i ∷ j ∷ k ∷ l ∷ []) p hp, one_of_four groups q hq, first, last)
+          (symbols (p % 2) (q % 2) (p / 2) (20 * (q / 2) + n) (omega arith) (omega arith) (omega arith) (omega arith)
+          ∙ rw then (halves (p / 2) (q / 2) (q % 2) (10 * (p % 2) + n) (omega arith) (omega arith) (omega arith)))

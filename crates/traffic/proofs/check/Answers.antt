@@ -1,27 +1,31 @@
--- `traffic::check` meets its contract: `checks_counted`, with the fill of each branch. Assumes nothing.
-use Prim.Native.Nat.{ℕ}
+-- `traffic::check` meets its contract: `checks_counted`, with the fill of each arm. Assumes nothing.
+use mathlib.Core.Path.{◌≡◌, ap, ◌∙◌}
 use native.Mathlib.Omega.{arith}
-use lib.ListN.{length-replicate}
-use Rattle.traffic.proofs.Counts.{checks_refused_lanes, checks_refused_counts, checks_counted}
+use Rattle.traffic.specs.definitions.Register.{state_after}
+use Rattle.traffic.specs.definitions.Traffic.{traffic_from}
+use Rattle.traffic.proofs.Counts.{start, checks_counted}
 use Rattle.traffic.proofs.check.Goals as goal
 
-pub returns-then-lanes-ne5280 : goal.returns-then-lanes-ne5280
-returns-then-lanes-ne5280 c = checks_refused_lanes _ _ _ c.if-lanes-ne5280.true
+pub returns-in-0 : goal.returns-in-0
+returns-in-0 c =
+    let lanes = rw c.in_ok-lanes.ensures.ok_part at c.as_array.ensures.cases in
+    let wrong = rw c.in_ok-wrong.ensures.ok_part at c.as_mut_array.ensures.cases in
+    let sent : c.generate.new.lanes ≡ traffic_from (state_after (start c.args.f)) =
+    c.generate.ensures.1 ∙ ap traffic_from (c.after.ensures ∙ ap state_after c.start_of.ensures) in
+    checks_counted _ _ lanes wrong.long (omega arith) sent c.count_lanes.ensures
 
-pub returns-then-wrong-ne32 : goal.returns-then-wrong-ne32
-returns-then-wrong-ne32 c = checks_refused_counts _ _ _ c.if-lanes-ne5280.false c.if-wrong-ne32.true
+pub returns-in-1 : goal.returns-in-1
+returns-in-1 c =
+    let lanes = rw c.in_ok-lanes.ensures.ok_part at c.as_array.ensures.cases in
+    let wrong = rw c.in_ok-wrong.ensures.ok_part at c.as_mut_array.ensures.cases in
+    let sent : c.generate.new.lanes ≡ traffic_from (state_after (start c.args.f)) =
+    c.generate.ensures.1 ∙ ap traffic_from (c.after.ensures ∙ ap state_after c.start_of.ensures) in
+    checks_counted _ _ lanes wrong.long (omega arith) sent c.count_lanes-in-1.ensures
 
-pub returns-then-f-gt1 : goal.returns-then-f-gt1
-returns-then-f-gt1 c =
-    checks_counted _ _ _ c.if-lanes-ne5280.false c.if-wrong-ne32.false (omega arith) c.start_of.ensures
-    c.state_after-state.ensures (length-replicate {A = ℕ} 5280 0) c.next_frame.ensures c.count_lanes.ensures
-
-pub returns-then-f-gt0 : goal.returns-then-f-gt0
-returns-then-f-gt0 c =
-    checks_counted _ _ _ c.if-lanes-ne5280.false c.if-wrong-ne32.false (omega arith) c.start_of.ensures
-    c.state_after-state.ensures (length-replicate {A = ℕ} 5280 0) c.next_frame.ensures c.count_lanes-then-f-gt0.ensures
-
-pub returns-else-f-gt0 : goal.returns-else-f-gt0
-returns-else-f-gt0 c =
-    checks_counted _ _ _ c.if-lanes-ne5280.false c.if-wrong-ne32.false (omega arith) c.start_of.ensures
-    c.state_after-state.ensures (length-replicate {A = ℕ} 5280 0) c.next_frame.ensures c.count_lanes-else-f-gt0.ensures
+pub returns-in_default : goal.returns-in_default
+returns-in_default c =
+    let lanes = rw c.in_ok-lanes.ensures.ok_part at c.as_array.ensures.cases in
+    let wrong = rw c.in_ok-wrong.ensures.ok_part at c.as_mut_array.ensures.cases in
+    let sent : c.generate.new.lanes ≡ traffic_from (state_after (start c.args.f)) =
+    c.generate.ensures.1 ∙ ap traffic_from (c.after.ensures ∙ ap state_after c.start_of.ensures) in
+    checks_counted _ _ lanes wrong.long (omega arith) sent c.count_lanes-in_default.ensures

@@ -9,5 +9,5 @@ use Rattle.traffic.proofs.frame.Goals as goal
 pub returns : goal.returns
 returns c =
     let f = c.args.f in
-    let e : c.wide32.result * 42240 ≡ 42240 * f = omega (arith, c.wide32.ensures.0) in
+    let e : c.from.result * 42240 ≡ 42240 * f = omega (arith, c.from.ensures) in
     continues_frame f (c.state_after-state.ensures ∙ ap state_after e) c.next_frame.ensures

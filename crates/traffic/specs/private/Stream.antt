@@ -19,11 +19,15 @@ pub record Grows (from end : ℕ) (words words' : List ℕ) : Type 0 where
   pub long : length words' ≡ length words
   pub streams : (s : ℕ) → s < 2 ^ 31 → Streams s from words → Streams s end words'
 
+-- the terms of a state: which of the first 31 states behind 1 it is the sum of. These are 1, 2, 4 to 2^27, 2^28 + 1, 2^29 + 2 and 2^30 + 4; the same back
+abbrev pub terms_of : ℕ → ℕ
+terms_of a = bit_xor a (a / 2 ^ 28)
+
 -- `as_far`: the state r is as many bits after the state s as the state a is after 1, however many these are
 pub record AsFar (a s r : ℕ) : Type 0 where
   pub far : (n : ℕ) → a ≡ state_from 1 n → r ≡ state_from s n
 
--- a step of `spread`: x and x moved up k places, as far as the mask lets through
+-- `parted`: x and x moved up k places, as far as the mask lets through
 unfoldable pub parted_of : ℕ → ℕ → ℕ → ℕ
 parted_of k mask x = bit_and (bit_xor x (x * 2 ^ k % 2 ^ 64)) mask
 
