@@ -1,13 +1,15 @@
 -- A record in a run: by the phase, and the symbols of a frame that was read.
 -- Assumes nothing.
 use mathlib.Core.Path.{◌≡◌, refl, sym, ap, ◌∙◌}
-use mathlib.Core.Bool.{cond}
+use mathlib.Core.Bool.{cond, not}
+use denote.Enum.Bare.{sameb}
+use Rattle.bench.specs.contracts.Phase.{the_type}
 use mathlib.Core.List.{List}
 use Prim.Native.Nat.{ℕ, ◌≤◌, min}
 use native.Mathlib.Omega.{arith}
 use lib.ListN.{length, drop, length-take, length-drop}
-use Rattle.capture.specs.declared.Read.{Read}
-use Rattle.capture.specs.declared.Read.TheVariants.{End, Refused, Order, Frame}
+use Rattle.capture.specs.definitions.Read.{Read}
+use Rattle.capture.specs.definitions.Read.{End, Refused, Order, Frame}
 use Rattle.capture.specs.definitions.Capture.{read_at, read_one}
 use Rattle.capture.proofs.Cases.{symbols_are}
 use Rattle.capture.proofs.Found.{frame_found}
@@ -15,7 +17,7 @@ use Rattle.capture.proofs.One.{is_refused, one_whole}
 use Rattle.bench.specs.declared.Run.{Run}
 use Rattle.bench.specs.declared.Phase.{Phase}
 use Rattle.bench.specs.declared.Phase.TheVariants.{Unordered, Going, Stopped}
-use Rattle.bench.specs.definitions.Run.{stopped, is_stopped, halted}
+use Rattle.bench.specs.definitions.Run.{stopped, is_stopped, goes_on, halted}
 use Rattle.bench.specs.private.Frame.{SymbolsThere}
 
 -- a refused record stops a run that is not stopped
@@ -24,6 +26,19 @@ unfolding halted is_stopped
 halts Unordered run = refl
 halts Going run = refl
 halts Stopped run = refl
+
+-- the tests of a phase
+pub stopped_test : (p : Phase) → sameb the_type p Stopped ≡ is_stopped p
+unfolding is_stopped
+stopped_test Unordered = refl
+stopped_test Going = refl
+stopped_test Stopped = refl
+
+pub going_test : (p : Phase) → not (sameb the_type p Going) ≡ not (goes_on p)
+unfolding goes_on
+going_test Unordered = refl
+going_test Going = refl
+going_test Stopped = refl
 
 -- a frame's symbols are all there
 pub symbols_there : (s : List ℕ) (i : ℕ) (read : Read) → read ≡ read_at s i → SymbolsThere read s

@@ -1,14 +1,21 @@
 // The run of a capture, record by record.
 #![tactic(auto)]
 
-ghost use Rattle.std.specs.Prelude.{◌≡◌, cond, length};
-ghost use Rattle.bench.specs.definitions.Run.{begun, going, stopped, after_entry, is_stopped, entry_of, order_came, frame_came, frame_refusal, halted};
+ghost use Rattle.std.specs.Prelude.{◌≡◌, if◌then◌else◌, length};
+ghost use Rattle.refusal.specs.definitions.Refusal.{number_of, answer_of};
+ghost use Rattle.capture.specs.definitions.Read.{read_in};
+ghost use Rattle.bench.specs.definitions.Run.{begun, stopped, is_stopped, framed, entry_of, order_came, frame_came, frame_refusal, halted};
 ghost use Rattle.bench.specs.definitions.Run.{refusal_of, came_as, stepped, step_refusal, goes_on, verdict_of};
 ghost use Rattle.bench.specs.definitions.Walk.{examined};
 ghost use Rattle.bench.specs.private.Frame.{SymbolsThere};
+ghost use Rattle.bench.specs.declared.Phase.TheVariants.{Going};
+
+use account::{Account, Verdict};
+use capture::Record;
+use refusal::Refusal;
 
 // No order yet; going on; stopped by a refusal, a second order, a frame before any order or a read that failed.
-#[derive(Clone, Copy)]
+#[derive(Clone, Copy, Debug, PartialEq, Eq)]
 pub enum Phase {
     Unordered,
     Going,
@@ -16,239 +23,175 @@ pub enum Phase {
 }
 
 // What a run holds: where it stands, the order's figures and the account.
-#[derive(Clone, Copy)]
+#[derive(Clone, Copy, Debug, PartialEq, Eq)]
 pub struct Run {
     pub phase: Phase,
     pub asked: u32,
     pub allowed: u32,
-    pub account: account::Account,
+    pub account: Account,
 }
 
-// A step's answer: the number by which the record was refused, or 0, and the run.
-#[derive(Clone, Copy)]
-pub struct Stepped {
-    pub refusal: u32,
-    pub run: Run,
-}
-
-// The run before its first record.
-pub fn begun() -> Run
-    ensures { result ≡ begun }
-{
-    let a = account::opened(0);
-    Run {
-        phase: Phase::Unordered,
-        asked: 0,
-        allowed: 0,
-        account: a,
-    }
-}
-
-// The run stopped: its figures and its account stay.
-pub fn stopped(run: Run) -> Run
-    ensures { result ≡ stopped run }
-{
-    let a = run.account;
-    Run {
-        phase: Phase::Stopped,
-        asked: run.asked,
-        allowed: run.allowed,
-        account: a,
-    }
-}
-
-// Whether it is.
-pub fn is_stopped(run: Run) -> bool
-    ensures { result ≡ is_stopped run.phase }
-{
-    let p = run.phase;
-    match p {
-        Phase::Unordered => false,
-        Phase::Going => false,
-        Phase::Stopped => true,
-    }
-}
-
-// The run going on with another account.
-fn going(run: Run, a: account::Account) -> Run
-    ensures { result ≡ going run a }
-{
-    Run {
-        phase: Phase::Going,
-        asked: run.asked,
-        allowed: run.allowed,
-        account: a,
-    }
-}
-
-// What an entry makes of a run: a refused one stops it.
-fn after_entry(run: Run, e: account::Entry) -> Stepped
-    ensures { result ≡ record { refusal = e.refusal; run = after_entry run e } }
-{
-    if e.refusal != 0 {
-        let halt = stopped(run);
-        return Stepped {
-            refusal: e.refusal,
-            run: halt,
-        };
-    }
-    let a = e.account;
-    let on = going(run, a);
-    Stepped {
-        refusal: 0,
-        run: on,
-    }
-}
-
-// A frame entered with the tallies of its flags, or, without lock, as a loss. A refused entry stops the run.
-fn framed(run: Run, got: u32, symbols: &[u8]) -> Stepped
+// A frame is entered in the account with the tallies of its flags, or, without lock, as a loss.
+fn enter_frame(account: &mut Account, got: u32, symbols: &[u8]) -> Result<(), Refusal>
     requires { length symbols.now ≡ 6144 }
-    ensures { result ≡ record {
-      refusal = (entry_of run.account got symbols.now).refusal;
-      run = after_entry run (entry_of run.account got symbols.now);
-    } }
+    ensures { record { refusal = answer_of result; account = account.new } ≡ entry_of account.old got symbols.now }
 {
-    let a = run.account;
     let mut words = [0u64; 768];
     let mut flags = [0u8; 384];
-    let number = framing::receive_words(symbols, &mut words, &mut flags);
-    if number != 0 {
-        let e = account::lose(a, got);
-        return after_entry(run, e);
+    match framing::receive_words(symbols, &mut words, &mut flags) {
+        Ok(()) => {
+            let tallies = account.tallies_of(got, &flags);
+            account.enter(got, tallies)
+        }
+        Err(_) => account.lose(got),
     }
-    let t = account::tallies_of(a, got, &flags);
-    let e = account::enter(a, got, t);
-    after_entry(run, e)
 }
 
-// An order came: the first is taken, with a new account; a second one stops the run.
-fn order_came(run: Run, start: u32, asked: u32, allowed: u32) -> Run
-    ensures { result ≡ order_came run.phase run start asked allowed }
-{
-    let p = run.phase;
-    match p {
-        Phase::Unordered => {
-            let a = account::opened(start);
-            Run {
-                phase: Phase::Going,
-                asked,
-                allowed,
-                account: a,
+impl Run {
+    // The run before its first record.
+    pub fn begun() -> Run
+        ensures { result ≡ begun }
+    {
+        Run {
+            phase: Phase::Unordered,
+            asked: 0,
+            allowed: 0,
+            account: Account::opened(0),
+        }
+    }
+
+    // The run stops: its figures and its account stay.
+    pub fn stop(&mut self)
+        ensures { self.new ≡ stopped self.old }
+    {
+        self.phase = Phase::Stopped;
+    }
+
+    // Whether it has.
+    pub fn is_stopped(&self) -> bool
+        ensures { result ≡ is_stopped self.now.phase }
+    {
+        self.phase == Phase::Stopped
+    }
+
+    // An order came: the first is taken, with a new account; a second one stops the run.
+    fn order_came(&mut self, start: u32, asked: u32, allowed: u32)
+        ensures { self.new ≡ order_came self.old.phase self.old start asked allowed }
+    {
+        match self.phase {
+            Phase::Unordered => {
+                *self = Run {
+                    phase: Phase::Going,
+                    asked,
+                    allowed,
+                    account: Account::opened(start),
+                };
             }
+            Phase::Going => self.stop(),
+            Phase::Stopped => {}
         }
-        Phase::Going => stopped(run),
-        Phase::Stopped => run,
     }
-}
 
-// A frame came: before any order it stops the run.
-fn frame_came(run: Run, got: u32, symbols: &[u8]) -> Stepped
-    requires { length symbols.now ≡ 6144 }
-    ensures { result ≡ record {
-      refusal = frame_refusal run.phase run got symbols.now;
-      run = frame_came run.phase run got symbols.now;
-    } }
-{
-    let p = run.phase;
-    match p {
-        Phase::Unordered => {
-            let halt = stopped(run);
-            Stepped {
-                refusal: 0,
-                run: halt,
+    // A frame is entered while the run goes on; a refused entry stops it.
+    fn framed(&mut self, got: u32, symbols: &[u8]) -> Result<(), Refusal>
+        requires whole { length symbols.now ≡ 6144 }
+        requires on { self.old.phase ≡ Going }
+        ensures refusal { answer_of result ≡ (entry_of self.old.account got symbols.now).refusal }
+        ensures run { self.new ≡ framed self.old got symbols.now }
+    {
+        let entered = enter_frame(&mut self.account, got, symbols);
+        if entered.is_err() {
+            self.stop();
+        }
+        entered
+    }
+
+    // A frame came: before any order it stops the run.
+    fn frame_came(&mut self, got: u32, symbols: &[u8]) -> Result<(), Refusal>
+        requires { length symbols.now ≡ 6144 }
+        ensures refusal { answer_of result ≡ frame_refusal self.old.phase self.old got symbols.now }
+        ensures run { self.new ≡ frame_came self.old.phase self.old got symbols.now }
+    {
+        match self.phase {
+            Phase::Unordered => {
+                self.stop();
+                Ok(())
             }
+            Phase::Going => self.framed(got, symbols),
+            Phase::Stopped => Ok(()),
         }
-        Phase::Going => framed(run, got, symbols),
-        Phase::Stopped => Stepped { refusal: 0, run },
     }
-}
 
-// A refused record came: it stops the run.
-fn halted(run: Run, refusal: u32) -> Stepped
-    ensures { result ≡ record { refusal = cond (is_stopped run.phase) 0 refusal; run = halted run.phase run } }
-{
-    if is_stopped(run) {
-        return Stepped { refusal: 0, run };
+    // A refused record came: it stops the run.
+    fn halted(&mut self, refusal: Refusal) -> Result<(), Refusal>
+        ensures refusal { answer_of result ≡ (if is_stopped self.old.phase then 0 else number_of refusal) }
+        ensures run { self.new ≡ halted self.old.phase self.old }
+    {
+        if self.is_stopped() {
+            return Ok(());
+        }
+        self.stop();
+        Err(refusal)
     }
-    let halt = stopped(run);
-    Stepped { refusal, run: halt }
-}
 
-// What was read in some bytes, and what it changes of the run.
-fn came(run: Run, read: capture::Read, bytes: &[u8]) -> Stepped
-    requires { SymbolsThere read bytes.now }
-    ensures { result ≡ record { refusal = refusal_of read run bytes.now; run = came_as read run bytes.now } }
-{
-    match read {
-        capture::Read::End => Stepped { refusal: 0, run },
-        capture::Read::Refused(refusal) => halted(run, refusal),
-        capture::Read::Order {
-            start,
-            asked,
-            allowed,
-            next: _,
-        } => {
-            let taken = order_came(run, start, asked, allowed);
-            Stepped {
-                refusal: 0,
-                run: taken,
+    // What was read in some bytes, and what it changes of the run.
+    fn came(&mut self, read: Result<Option<Record>, Refusal>, bytes: &[u8]) -> Result<(), Refusal>
+        requires { SymbolsThere (read_in read) bytes.now }
+        ensures refusal { answer_of result ≡ refusal_of (read_in read) self.old bytes.now }
+        ensures run { self.new ≡ came_as (read_in read) self.old bytes.now }
+    {
+        match read {
+            Ok(None) => Ok(()),
+            Ok(
+                Some(
+                    Record::Order {
+                        start,
+                        asked,
+                        allowed,
+                        ..
+                    },
+                ),
+            ) => {
+                self.order_came(start, asked, allowed);
+                Ok(())
             }
-        }
-        capture::Read::Frame {
-            number,
-            from,
-            next: _,
-        } => {
-            let symbols = capture::symbols_at(bytes, from);
-            frame_came(run, number, symbols)
+            Ok(Some(Record::Frame { number, from, .. })) => {
+                self.frame_came(number, capture::symbols_at(bytes, from))
+            }
+            Err(refusal) => self.halted(refusal),
         }
     }
-}
 
-// One record's bytes alone, and what they change. No bytes change nothing; what else is no single record only stops the run, and a run that is stopped changes
-// no more. The number is the refusal's.
-pub fn step(run: Run, piece: &[u8]) -> Stepped
-    ensures { result ≡ record { refusal = step_refusal run piece.now; run = stepped run piece.now } }
-{
-    let read = capture::read_one(piece);
-    came(run, read, piece)
-}
-
-// Whether an order came, and nothing has stopped the run since.
-fn goes_on(p: Phase) -> bool
-    ensures { result ≡ goes_on p }
-{
-    match p {
-        Phase::Unordered => false,
-        Phase::Going => true,
-        Phase::Stopped => false,
+    // One record's bytes alone, and what they change. No bytes change nothing; what else is no single record only stops the run, and a run that is stopped
+    // changes no more.
+    pub fn step(&mut self, piece: &[u8]) -> Result<(), Refusal>
+        ensures refusal { answer_of result ≡ step_refusal self.old piece.now }
+        ensures run { self.new ≡ stepped self.old piece.now }
+    {
+        self.came(capture::read_one(piece), piece)
     }
-}
 
-// The verdict of a run.
-pub fn verdict_of(run: Run) -> account::Verdict
-    ensures { result ≡ verdict_of run }
-{
-    let p = run.phase;
-    let a = run.account;
-    account::verdict_of(run.asked, run.allowed, a, !goes_on(p))
+    // The verdict: without an order, or stopped, the run is not measured.
+    pub fn verdict(&self) -> Verdict
+        ensures { result ≡ verdict_of self.now }
+    {
+        self.account
+            .verdict(self.asked, self.allowed, self.phase != Phase::Going)
+    }
 }
 
 // A whole capture, record by record. At a refused record the place stays, and the run is stopped.
 pub fn examine_capture(capture: &[u8]) -> Run
     ensures { result ≡ examined capture.now }
 {
-    let mut run = begun();
-    let mut place: usize = 0;
-    while place < capture.len() {
+    let mut run = Run::begun();
+    let mut place = 0;
+    loop {
         let read = capture::read_at(capture, place);
-        let next = capture::next_place(read, place);
-        let stepped = came(run, read, capture);
-        run = stepped.run;
-        if next <= place {
+        let _ = run.came(read, capture);
+        let Ok(Some(record)) = read else {
             return run;
-        }
-        place = next;
+        };
+        place = record.next();
     }
-    run
 }

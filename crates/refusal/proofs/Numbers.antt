@@ -2,6 +2,8 @@
 -- Assumes nothing.
 use mathlib.Core.Path.{◌≡◌, refl, sym, ap, ◌∙◌}
 use native.Mathlib.Omega.{arith}
+use mathlib.Core.Bool.{true, false, false≢true}
+use Rattle.std.specs.Result.{is_err}
 use Rattle.std.proofs.Common.{ℕ, ◌<◌, nat_eq, Result, Ok, Err, if◌then◌else◌}
 use Rattle.refusal.specs.declared.Refusal.{Refusal}
 use Rattle.refusal.specs.declared.Refusal.TheVariants as refusal
@@ -67,3 +69,12 @@ positive refusal.Tallies = omega arith
 positive refusal.ShortRun = omega arith
 positive refusal.MoreThanOne = omega arith
 positive refusal.TooMany = omega arith
+
+-- what is no refusal was done, and what is one was not
+pub done : (answer : Result Unit Refusal) → is_err answer ≡ false → answer_of answer ≡ 0
+done (Ok x) e = refl
+done (Err refusal) e = absurd (false≢true (sym e))
+
+pub not_done : (answer : Result Unit Refusal) → is_err answer ≡ true → 0 < answer_of answer
+not_done (Ok x) e = absurd (false≢true e)
+not_done (Err refusal) e = positive refusal
