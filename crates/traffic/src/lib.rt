@@ -130,8 +130,8 @@ impl State {
         words[0] = self.first_word();
         words[1] = self.ahead(28).ahead(28).ahead(8).first_word();
         next_words(words);
-        grow(1, 31, 62, words);
-        grow(2, 62, 660, words);
+        grow(1, 31, 64, words);
+        grow(2, 64, 660, words);
     }
 
     // The lanes of the frame from this state on; the answer is the state after it, the last 31 bits of the stream before they were inverted.
