@@ -74,37 +74,48 @@ impl<'a> Lane<'a> {
         block_at(self.store, q)
     }
 
-    // The eleven blocks of row r that come out: first those of the store, oldest first, and then those that entered with the frame.
+    // The block that comes out of row r at turn t: first those of the store, oldest first, and then those that entered with the frame.
+    fn turned_out<S: Side>(&self, r: usize, t: usize) -> [u8; 5]
+        requires { (r < 3) × (t < 11) }
+        ensures { result ≡ block_of self.now (out_from S.rows (3 * t + r)) }
+    {
+        let d = S::depth(r);
+        if t < d {
+            return self.held(S::start(r) + (d - 1 - t));
+        }
+        self.entered(3 * (t - d) + r)
+    }
+
+    // The block that row r keeps at place q, newest first.
+    fn kept<S: Side>(&self, r: usize, q: usize) -> [u8; 5]
+        requires { (r < 3) × (q < S.rows.depth r) }
+        ensures { result ≡ block_of self.now (kept_from S.rows (S.rows.start r + q)) }
+    {
+        if q < 11 {
+            return self.entered(3 * (10 - q) + r);
+        }
+        self.held(S::start(r) + (q - 11))
+    }
+
+    // The eleven blocks of row r that come out.
     fn row_out<S: Side>(&self, r: usize, out: &mut [u8])
         requires { (r < 3) × (length out.old ≡ 165) }
         ensures { TurnsOut S.rows self.now r 11 out.old out.new }
     {
-        let d = S::depth(r);
-        let n = d.min(11);
-        for t in 0..n {
+        for t in 0..11 {
             let at = 15 * t + 5 * r;
-            put_block(self.held(S::start(r) + (d - 1 - t)), &mut out[at..at + 5]);
-        }
-        for t in n..11 {
-            let at = 15 * t + 5 * r;
-            put_block(self.entered(3 * (t - d) + r), &mut out[at..at + 5]);
+            put_block(self.turned_out::<S>(r, t), &mut out[at..at + 5]);
         }
     }
 
-    // The blocks that row r keeps, newest first: those that entered with the frame, and then those of the store.
+    // The blocks that row r keeps.
     fn row_kept<S: Side>(&self, r: usize, next: &mut [u8])
         requires { (r < 3) × (length next.old ≡ 5 * S.rows.depth r) }
         ensures { next.new ≡ tabulate (5 * S.rows.depth r) (λ i. block_byte self.now (kept_from S.rows (S.rows.start r + i / 5)) (i % 5)) }
     {
-        let d = S::depth(r);
-        let n = d.min(11);
-        for q in 0..n {
+        for q in 0..S::depth(r) {
             let at = 5 * q;
-            put_block(self.entered(3 * (10 - q) + r), &mut next[at..at + 5]);
-        }
-        for q in n..d {
-            let at = 5 * q;
-            put_block(self.held(S::start(r) + (q - 11)), &mut next[at..at + 5]);
+            put_block(self.kept::<S>(r, q), &mut next[at..at + 5]);
         }
     }
 

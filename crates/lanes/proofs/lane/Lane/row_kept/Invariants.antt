@@ -9,8 +9,3 @@ abbrev pub invariant-loop-q : goal.invariant-loop-q
 invariant-loop-q g l =
     let R = g.S.Side.rows in
     Filling (moved_byte l.self (λ j. kept_from R (R.start l.r + j))) (5 * R.depth l.r) l.initial.next l.next (5 * l.q)
-
-abbrev pub invariant-loop-q-2 : goal.invariant-loop-q-2
-invariant-loop-q-2 g l =
-    let R = g.S.Side.rows in
-    Filling (moved_byte l.self (λ j. kept_from R (R.start l.r + j))) (5 * R.depth l.r) l.fn.next l.next (5 * l.q)

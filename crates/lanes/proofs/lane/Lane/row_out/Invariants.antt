@@ -4,6 +4,3 @@ use Rattle.lanes.proofs.lane.Lane.row_out.Given as goal
 
 abbrev pub invariant-loop-t : goal.invariant-loop-t
 invariant-loop-t g l = TurnsOut g.S.Side.rows l.self l.r l.t l.initial.out l.out
-
-abbrev pub invariant-loop-t-2 : goal.invariant-loop-t-2
-invariant-loop-t-2 g l = TurnsOut g.S.Side.rows l.self l.r l.t l.fn.out l.out
