@@ -20,9 +20,6 @@ use Rattle.lanes.proofs.Bytewise.{block_read, front}
 -- ---- turn by turn
 
 module _ {R : Rows} {z : List ℕ} {r : ℕ} {o₀ : List ℕ} where
-  pub turns_start : TurnsOut R z r 0 o₀ o₀
-  turns_start = record { long = refl; here = λ i _ _ a. absurd (omega arith); there = λ i _. refl }
-
   -- a turn that lends the part of its block
   pub turns_step : {n : ℕ} {o : List ℕ} (i e : ℕ) (part : List ℕ) → TurnsOut R z r n o₀ o → length o₀ ≡ 165 → (r < 3) × (n < 11)
       → (i ≡ 15 * n + 5 * r) × (e ≡ i + 5) → length part ≡ length (take (e - i) (drop i o)) → part ≡ block_of z (out_from R (3 * n + r))

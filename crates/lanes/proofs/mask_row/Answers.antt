@@ -11,20 +11,12 @@ use Rattle.lanes.proofs.mask_row.Goals as goal
 pub loop-b-init : goal.loop-b-init
 loop-b-init c = filling_start _ refl
 
-pub loop-c-init : goal.loop-c-init
-loop-c-init c = let e : 5 * c.loop-b.b ≡ 5 * c.loop-b.b + 0 = omega arith in subst (Filling _ 80 _ c.loop-b.row) e c.loop-b.invariant
-
 pub loop-c-preserved : goal.loop-c-preserved
 loop-c-preserved c =
     let e : c.loop-c.c ≡ (5 * c.loop-b.b + c.loop-c.c) % 5 = omega arith in
     let next : 5 * c.loop-b.b + c.loop-c.c + 1 ≡ 5 * c.loop-b.b + (c.loop-c.c + 1) = omega arith in
     subst (Filling _ 80 _ _) next
     (filling_step _ _ c.loop-c.invariant (omega arith) (ap (λ (k : ℕ). get_or masks (5 * (c.args.exchanged % 16) + k) 0) e))
-
-pub loop-b-preserved : goal.loop-b-preserved
-loop-b-preserved c =
-    let e : 5 * c.loop-b.b + c.loop-c.c ≡ 5 * (c.loop-b.b + 1) = omega arith in
-    subst (Filling _ 80 _ c.loop-c.row) e c.loop-c.invariant
 
 pub returns : goal.returns
 returns c = is_mask_row c.args.exchanged (filling_done _ c.loop-b.invariant (omega arith))

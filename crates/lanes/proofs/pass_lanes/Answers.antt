@@ -3,7 +3,7 @@ use mathlib.Core.Path.{refl}
 use Prim.Native.Nat.{◌+◌, ◌*◌}
 use native.Mathlib.Omega.{arith}
 use lib.ListN.{length-take, length-drop}
-use Rattle.bits.proofs.Filling.{filling_start, filling_done}
+use Rattle.bits.proofs.Filling.{filling_start}
 use Rattle.lanes.specs.private.Blocks.{out_from, kept_from}
 use Rattle.lanes.proofs.Bytewise.{out_of, kept_of, lane_block, lane_step, five_165, five_90}
 use Rattle.lanes.proofs.Turns.{own_lane}
@@ -35,11 +35,4 @@ loop-p-preserved g c =
       is_kept =
           lane_step (kept_of R x s) 90 p _ _ _ c.loop-p.invariant.is_kept refl (omega arith) c.blocks_kept.ensures
           (λ k. lane_block x s (kept_from R) 90 p k lane five_90);
-    }
-
-pub returns : goal.returns
-returns g c =
-    record {
-      comes_out = filling_done _ c.loop-p.invariant.comes_out (omega arith);
-      is_kept = filling_done _ c.loop-p.invariant.is_kept (omega arith);
     }

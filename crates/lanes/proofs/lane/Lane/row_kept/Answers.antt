@@ -2,7 +2,7 @@
 use mathlib.Core.Path.{◌∙◌}
 use Prim.Native.Nat.{ℕ, ◌+◌, ◌*◌}
 use native.Mathlib.Omega.{arith}
-use Rattle.bits.proofs.Filling.{filling_start, filling_done}
+use Rattle.bits.proofs.Filling.{filling_start}
 use Rattle.lanes.specs.private.Blocks.{kept_from}
 use Rattle.lanes.proofs.Bytewise.{block_step}
 use Rattle.lanes.proofs.lane.Lane.row_kept.Goals as goal
@@ -18,6 +18,3 @@ loop-q-preserved g c =
     let from : ℕ → ℕ = λ j. kept_from R (R.start a.r + j) in
     let put = c.put_block in
     block_step a.self.now from q (5 * q + 5) _ c.loop-q.invariant (omega arith) put.auto.out (put.ensures ∙ c.kept.ensures)
-
-pub returns : goal.returns
-returns g c = filling_done _ c.loop-q.invariant (omega arith)
