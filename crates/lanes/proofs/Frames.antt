@@ -1,17 +1,13 @@
 -- A whole frame: the permutation and the moved blocks are what the definitions say of it, on the way out and on the way back.
 -- Assumes nothing.
 use mathlib.Core.Path.{◌≡◌, refl, sym, ap, ◌∙◌, subst}
-use mathlib.Core.Bool.{Bool, true, ◌&&◌}
 use mathlib.Core.List.{List}
 use Prim.Native.Nat.{ℕ, ◌/◌, ◌%◌, ◌<◌}
-use lib.Dec.{eqb}
 use lib.ListN.{length}
-use borrow.Author.Tests.{eq-eqb}
 use Rattle.bits.specs.definitions.Bits.{tabulate, AllBytes}
 use Rattle.bits.proofs.Fields.{length_bytes}
-use Rattle.lanes.specs.definitions.Permutation.{Lanes, Places, named, permuted, lanes_of, lane_bytes}
+use Rattle.lanes.specs.definitions.Permutation.{Lanes, named, permuted, lanes_of, lane_bytes}
 use Rattle.lanes.specs.definitions.Interleaver.{sender, receiver, rows_out, interleaved_frame, interleaved_store, deinterleaved_frame, deinterleaved_store}
-use Rattle.lanes.specs.definitions.Interleaver.{DeinterleavesFrame}
 use Rattle.lanes.proofs.Rows.{sender_apart, receiver_apart}
 use Rattle.lanes.proofs.Bytewise.{out_of, kept_of, out_is, kept_is, frame_bit, frame_bytes, permuted_lt, rows_out_lt, lanes_lt, permuted_cong}
 
@@ -58,15 +54,3 @@ module _ (e : ℕ) (a s : List ℕ) {out next : List ℕ} (S : AllBytes s) where
       same p i hp hi =
           ap (λ (l : List ℕ). lanes_of l p i) (ey ∙ out_is receiver receiver_apart a s long A S (lanes_of a) (λ p i hp hi. refl))
           ∙ frame_bit back (rows_out_lt receiver s (lanes_of a) (lanes_lt a)) p i hp hi
-
--- ---- the lengths of what is lent
-
-pub right_lengths : (s o : List ℕ) → length s ≡ 2880 → length o ≡ 5280 → true ≡ (eqb (length s) 2880 && eqb (length o) 5280)
-right_lengths s o e f = rw (eq-eqb (length s) 2880 e, eq-eqb (length o) 5280 f)
-
--- a call whose lengths are right deinterleaves
-pub frame_deinterleaved : {ex : Places} {a s o : List ℕ} {r : Bool} {s' o' : List ℕ} → DeinterleavesFrame ex a s o r s' o' → length s ≡ 2880 → length o ≡ 5280
-    → (s' ≡ deinterleaved_store a s) × (o' ≡ deinterleaved_frame ex a s)
-frame_deinterleaved {ex} {a} {s} {o} D e f =
-    let t = sym (right_lengths s o e f) in
-    (rw (D.store, D.done, t), rw (D.output, D.done, t))
