@@ -24,6 +24,8 @@ use Rattle.capture.proofs.read_at.Kinds as read-kinds
 use Rattle.capture.proofs.read_at.Reads as read-reads
 use Rattle.capture.proofs.symbols_at.Kinds as symbols-kinds
 use Rattle.capture.proofs.symbols_at.Reads as symbols-reads
+use Rattle.capture.proofs.Record.next.Kinds as behind-kinds
+use Rattle.capture.proofs.Record.next.Reads as behind-reads
 use Rattle.capture.proofs.next_place.Kinds as place-kinds
 use Rattle.capture.proofs.next_place.Reads as place-reads
 use Rattle.capture.proofs.wanted.Kinds as wanted-kinds
@@ -55,6 +57,9 @@ pub symbols_at_determined : (κs : Lfts 1) (a : Dens κs symbols-kinds.ps) (x y 
 symbols_at_determined κs a x y s t p q = p ∙ sym q
 
 -- a place
+pub record_next_determined : Fixes 1 behind-kinds.ps behind-kinds.r behind-reads.Post (λ κs s t. Unit)
+record_next_determined κs a x y s t p q = (p ∙ sym q, tt)
+
 pub next_place_determined : Fixes 0 place-kinds.ps place-kinds.r place-reads.Post (λ κs s t. Unit)
 next_place_determined κs a x y s t p q = (p ∙ sym q, tt)
 
