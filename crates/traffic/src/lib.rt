@@ -123,7 +123,8 @@ impl State {
         word
     }
 
-    // The stream of a frame from this state on, and a word of no meaning behind it.
+    // The stream of a frame from this state on, and a word of no meaning behind it. The pairs of words from word 64 on are even in number, so that the compiler
+    // makes two of them a turn with one test.
     fn write_stream(self, words: &mut [u64; 661])
         ensures { Streams self.bits 660 words.new }
     {
