@@ -3,7 +3,6 @@
 -- Assumes nothing.
 use mathlib.Core.Path.{◌≡◌, refl, sym, ap, ap₂, ◌∙◌}
 use mathlib.Core.Bool.{not, ◌&&◌}
-use mathlib.Core.Logic.{◌≢◌}
 use mathlib.Core.List.{List}
 use Prim.Native.Nat.{ℕ, zero, suc, ◌+◌, ◌*◌, ◌-◌, ◌≤◌, ◌<◌}
 use native.Mathlib.Decide.{dec_lt}
@@ -14,7 +13,7 @@ use Rattle.std.specs.Array.{IsWholeChunk}
 use borrow.Author.Tests.{lt-ltb, le-ltb}
 use Rattle.bits.specs.definitions.Bits.{tabulate, bit_at, count}
 use Rattle.bits.specs.definitions.Call.{unless}
-use Rattle.bits.proofs.Calls.{passed, failed, left, written}
+use Rattle.bits.proofs.Calls.{passed, written}
 use Rattle.bits.proofs.Count.{count_cong}
 use Rattle.bits.proofs.Tabulate.{tabulate_cong}
 use Rattle.lanes.specs.definitions.Stream.{stream_bit}
@@ -27,14 +26,6 @@ use Rattle.traffic.specs.statements.Checker.{Compared, CountsExactly, ChecksExis
 use Rattle.traffic.proofs.Frames.{placed_later, from_placed, stream_placed}
 
 -- ---- a call of the checker: refused, done, and what it leaves
-
-pub checks_refused_lanes : (f : ℕ) (lanes c : List ℕ) → length lanes ≢ 5280 → Checks f lanes c 1 c
-checks_refused_lanes f lanes c h = let e = failed 5280 lanes 1 (unless 32 c 3 0) h in record { number = sym e; counts = sym (left _ 0 _ c e) }
-
-pub checks_refused_counts : (f : ℕ) (lanes c : List ℕ) → length lanes ≡ 5280 → length c ≢ 32 → Checks f lanes c 3 c
-checks_refused_counts f lanes c h h' =
-    let e = passed 5280 lanes 1 (unless 32 c 3 0) h ∙ failed 32 c 3 0 h' in
-    record { number = sym e; counts = sym (left _ 2 _ c e) }
 
 checks_done : (f : ℕ) (lanes c c' : List ℕ) → length lanes ≡ 5280 → length c ≡ 32 → c' ≡ wrong_counts f lanes → Checks f lanes c 0 c'
 checks_done f lanes c c' h h' q =

@@ -1,13 +1,12 @@
 -- Frames of test traffic by their bits, and runs of calls. `FrameFrom`, `OneAfterTheOther`, `OneSequence`, `TrafficExists` and `TopBit`.
 -- Assumes nothing.
 use mathlib.Core.Path.{◌≡◌, refl, sym, ap, ◌∙◌}
-use mathlib.Core.Logic.{◌≢◌}
 use mathlib.Core.List.{List}
 use Prim.Native.Nat.{ℕ, zero, suc, ◌+◌, ◌*◌, ◌/◌, ◌%◌, ◌^◌, ◌<◌, ◌≤◌}
 use native.Mathlib.Omega.{arith}
 use lib.ListN.{length}
 use Rattle.bits.specs.definitions.Call.{unless, after}
-use Rattle.bits.proofs.Calls.{passed, failed, left, written}
+use Rattle.bits.proofs.Calls.{passed, written}
 use Rattle.bits.proofs.Fields.{length_bytes}
 use Rattle.lanes.specs.definitions.Permutation.{lanes_of, lane_bytes}
 use Rattle.lanes.specs.definitions.Stream.{stream_bit}
@@ -66,9 +65,6 @@ generates_done f o o' h q = let e = passed 5280 o 3 0 h in record { number = sym
 -- and the other way: a call that answered 0 left the frame
 pub generates_frame : (f : ℕ) (o o' : List ℕ) → Generates f o 0 o' → o' ≡ traffic_frame f
 generates_frame f o o' G = G.output ∙ written _ _ o (sym G.number)
-
-pub continues_refused : (s : ℕ) (o : List ℕ) → length o ≢ 5280 → Continues s o 3 s o
-continues_refused s o h = let e = failed 5280 o 3 0 h in record { number = sym e; state = sym (left _ 2 _ s e); output = sym (left _ 2 _ o e) }
 
 pub continues_done : (s : ℕ) (o : List ℕ) (s' : ℕ) (o' : List ℕ) → length o ≡ 5280 → s' ≡ state_from s frame_bits → o' ≡ traffic_from s → Continues s o 0 s' o'
 continues_done s o s' o' h p q =

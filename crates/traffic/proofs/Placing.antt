@@ -61,9 +61,6 @@ module _ (words : List ℕ) (fits : (k : ℕ) → get_or words k 0 < 2 ^ 64) whe
 
 -- ---- blocks put down
 
-pub placed_start : (words lanes : List ℕ) → Placed words 0 lanes
-placed_start words lanes = record { bytes = λ h. omega arith; bit = λ p i hp hi. omega arith }
-
 -- bit q of group m of row j of block i
 group_bit : (words : List ℕ) (i j m q : ℕ) → j < 4 → m < 8 → q < 64
     → bit_of 64 (get_or (get_or (rows_of words i) j []) m 0) q ≡ words_bit words (320 * (4 * i + j) + 40 * m + q)

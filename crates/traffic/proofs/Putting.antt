@@ -106,9 +106,6 @@ column_at rows q (suc (suc zero)) h = refl
 column_at rows q (suc (suc (suc zero))) h = refl
 column_at rows q (suc (suc (suc (suc j)))) h = absurd (omega arith)
 
-pub blocks_start : {rows : List (List ℕ)} {l : List ℕ} {i : ℕ} → BlocksPut rows i 0 l l
-blocks_start = record { bytes = λ h. absurd (omega arith); here = λ p j e h. absurd (omega arith); kept = λ p j h b. refl }
-
 -- one lane more, p: lane k of the four whose blocks these are
 pub blocks_step : {rows : List (List ℕ)} {blocks l₀ l l' : List ℕ} {i p n : ℕ} (q k : ℕ) → i < 33 → k < 4 → p ≡ 4 * q + k → n ≡ p + 1
     → Turned (column rows q) blocks → BlocksPut rows i p l₀ l → BlockPut i p (get_or blocks k 0) l l' → BlocksPut rows i n l₀ l'

@@ -156,6 +156,7 @@ fn terms(state: u64) -> u64
 }
 
 // A number and itself k places further on, as far as the mask lets through.
+#[tactic(auto, unfolding(crate::specs::private::Stream::parted_of))]
 fn parted(x: u64, k: u64, mask: u64) -> u64
     requires { k < 64 }
     ensures { result ≡ parted_of k mask x }
@@ -164,6 +165,7 @@ fn parted(x: u64, k: u64, mask: u64) -> u64
 }
 
 // A number's bits at every other place, for up to 32 of them.
+#[tactic(auto, unfolding(crate::specs::private::Stream::spread_of))]
 fn spread(terms: u64) -> u64
     ensures { result ≡ spread_of terms }
 {
@@ -175,6 +177,7 @@ fn spread(terms: u64) -> u64
 }
 
 // The same sum with fewer terms: the state 31 bits on is the sum of the one three bits on and this one.
+#[tactic(auto, unfolding(crate::specs::private::Stream::reduced_of))]
 fn reduced(terms: u64) -> u64
     ensures { result ≡ reduced_of terms }
 {
