@@ -1,26 +1,21 @@
--- What each way through entering a frame by its flag bytes comes to, over plain variables.
+-- What a report of some bytes, or of none, comes to as a number.
 -- Assumes nothing.
-use mathlib.Core.Path.{◌≡◌, refl, sym, ap, ◌∙◌}
-use mathlib.Core.Logic.{◌≢◌}
+use mathlib.Core.Path.{◌≡◌, refl, ap, ◌∙◌}
+use mathlib.Core.Bool.{Bool, true, false, cond}
 use mathlib.Core.List.{List}
 use Prim.Native.Nat.{ℕ}
 use lib.ListN.{length}
-use borrow.Author.Tests.{eq-eqb, ne_eqb}
-use Rattle.bits.specs.definitions.Bits.{copied}
-use Rattle.bits.proofs.Filling.{copied_all}
-use Rattle.account.specs.declared.Account.{Account}
-use Rattle.account.specs.declared.Entry.{Entry}
-use Rattle.account.specs.declared.Tallies.{Tallies}
-use Rattle.account.specs.definitions.Account.{tallies_of, frame_entered}
-use Rattle.adderbloom.specs.definitions.Entry.{flags_entered}
+use lib.Dec.{leb}
+use Rattle.std.specs.Prelude.{Option, Some, None}
+use Rattle.std.specs.Option.{unwrap_or}
+use Rattle.bench.specs.declared.Run.{Run}
+use Rattle.report.specs.definitions.Report.{text, written_bytes}
 
-module _ (a : Account) (got : ℕ) (flags : List ℕ) where
-  pub flags_refused : length flags ≢ 384 → record { refusal = 4; account = a } ≡ flags_entered a got flags
-  unfolding flags_entered
-  flags_refused ne = rw (ne_eqb _ _ ne) refl
-
-  -- the bytes are copied over 384 others
-  pub flags_taken : length flags ≡ 384 → (own zeros : List ℕ) → own ≡ copied flags zeros → length zeros ≡ 384 → (t : Tallies) → t ≡ tallies_of a got own
-      → (e : Entry) → e ≡ frame_entered a got t → e ≡ flags_entered a got flags
-  unfolding flags_entered
-  flags_taken l own zeros c z t h e k = rw (eq-eqb _ _ l) (k ∙ ap (frame_entered a got) (h ∙ ap (tallies_of a got) (c ∙ copied_all flags zeros (l ∙ sym z))))
+pub taken_bytes : (run : Run) (buffer : List ℕ) (taken : Option ℕ) → taken ≡ cond (leb (length (text run)) (length buffer)) (Some (length (text run))) None
+    → unwrap_or taken 0 ≡ written_bytes run buffer
+unfolding written_bytes
+taken_bytes run buffer taken e = ap (λ (o : Option ℕ). unwrap_or o 0) e ∙ at (leb (length (text run)) (length buffer))
+  where
+    at : (b : Bool) → unwrap_or (cond b (Some (length (text run))) None) 0 ≡ cond b (length (text run)) 0
+    at true = refl
+    at false = refl

@@ -9,9 +9,9 @@ use types.Logic.{Logic}
 use contract.Monad.{Fun}
 use Rattle.bits.proofs.Fixes.{Fixes, FixesSaid}
 use Rattle.account.specs.definitions.Account.{opened, loss_entered}
-use Rattle.account.specs.declared.Entry.{Entry}
+use Rattle.account.specs.definitions.Account.{Entry}
 use Rattle.bench.specs.definitions.Run.{begun, stopped}
-use Rattle.adderbloom.specs.declared.runs.Answer.{Answer}
+use Rattle.adderbloom.specs.definitions.Run.{Answer}
 use Rattle.adderbloom.specs.definitions.Entry.{flags_entered}
 use Rattle.adderbloom.specs.definitions.Run.{run_of, kept_run, step_answer}
 use Rattle.adderbloom.proofs.lr800_send.Kinds as send-kinds

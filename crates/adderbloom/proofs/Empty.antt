@@ -11,7 +11,7 @@ use Rattle.bench.specs.definitions.Run.{is_stopped, goes_on, verdict_of}
 use Rattle.bench.proofs.Stops.{stopped_stays}
 use Rattle.adderbloom.specs.definitions.Run.{phase_number, phase_of, run_of, kept_run, step_answer}
 use Rattle.adderbloom.specs.declared.runs.Run.{Run}
-use Rattle.adderbloom.specs.declared.runs.Answer.{Answer}
+use Rattle.adderbloom.specs.definitions.Run.{Answer}
 
 module _ (asked allowed : ℕ) (a : Account) where
   -- the phase 3

@@ -11,14 +11,12 @@ pub fn lr800_examine(capture: &[u8], text: &mut [u8]) -> usize
     ensures { (result ≡ written_bytes (examined capture.now) text.old)
         × (text.new ≡ written (examined capture.now) text.old) }
 {
-    let run = bench::examine_capture(capture);
-    report::report(run, text)
+    report::report(bench::examine_capture(capture), text).unwrap_or(0)
 }
 
 // The verdict of a capture: 0 not measured, 1 PASS, 2 FAIL.
 pub fn lr800_examine_verdict(capture: &[u8]) -> u32
     ensures { result ≡ verdict_number (verdict_of (examined capture.now)) }
 {
-    let run = bench::examine_capture(capture);
-    account::verdict_number(bench::verdict_of(run))
+    u32::from(bench::examine_capture(capture).verdict())
 }

@@ -14,11 +14,13 @@ ghost use Rattle.framing.specs.definitions.Receive.{Receives};
 ghost use Rattle.std.specs.Prelude.{◌≡◌, not, eqb};
 ghost use Rattle.account.specs.definitions.Account.{verdict, verdict_number};
 
+use account::{Account, Tallies};
+
 // A frame sent: 5,280 bytes of lanes in, 6,144 symbols out, 2,880 bytes of store kept. Refusals 1, 2, 3 change nothing.
 pub fn lr800_send(input: &[u8], store: &mut [u8], output: &mut [u8]) -> u32
     ensures { Sends base input.now store.old output.old result store.new output.new }
 {
-    framing::send(input, store, output)
+    refusal::number(framing::send(input, store, output))
 }
 
 // A frame received: 6,144 symbols in, 5,280 bytes of lanes and 384 flag bytes out, 2,880 bytes of store kept. Refusals 1 to 5 change nothing.
@@ -26,7 +28,7 @@ pub fn lr800_receive(input: &[u8], store: &mut [u8], output: &mut [u8], flags: &
     ensures { Receives base input.now store.old output.old flags.old
         result store.new output.new flags.new }
 {
-    framing::receive(input, store, output, flags)
+    refusal::number(framing::receive(input, store, output, flags))
 }
 
 // The verdict on a run's numbers: 0 not measured, 1 PASS, 2 FAIL. A run that was stopped is not measured, whatever its numbers.
@@ -49,19 +51,17 @@ pub fn lr800_verdict(
       words = record { clean = clean; one = one; two = two; flagged = flagged };
     }) (not (eqb stopped 0))) }
 {
-    let words = account::Tallies {
-        clean,
-        one,
-        two,
-        flagged,
-    };
-    let a = account::Account {
+    let account = Account {
         expected: 0,
         start: 0,
         accepted,
         missing,
-        words,
+        words: Tallies {
+            clean,
+            one,
+            two,
+            flagged,
+        },
     };
-    let v = account::verdict_of(asked, allowed, a, stopped != 0);
-    account::verdict_number(v)
+    u32::from(account.verdict(asked, allowed, stopped != 0))
 }

@@ -1,11 +1,12 @@
 // What stands at a place of a capture, as numbers.
 ghost use Rattle.std.specs.Prelude.{◌≡◌};
 ghost use Rattle.capture.specs.definitions.Capture.{read_at, wanted};
+ghost use Rattle.capture.specs.definitions.Read.{End};
 ghost use Rattle.adderbloom.specs.definitions.Record.{record_of};
 
 // A record read: a refusal's number or 0, its kind, its figures, where its symbols lie, and the next place.
 #[repr(C)]
-#[derive(Clone, Copy)]
+#[derive(Clone, Copy, Debug, PartialEq, Eq)]
 pub struct Record {
     pub refusal: u32,
     pub kind: u32,
@@ -16,52 +17,52 @@ pub struct Record {
     pub next: usize,
 }
 
+// Nothing at this place: what a record does not have is 0.
+fn nothing(place: usize) -> Record
+    ensures { result ≡ record_of End place }
+{
+    Record {
+        refusal: 0,
+        kind: 0,
+        number: 0,
+        asked: 0,
+        allowed: 0,
+        symbols: 0,
+        next: place,
+    }
+}
+
 // What stands at a place of a capture; any place is lawful, also one beyond the end.
 pub fn lr800_read(capture: &[u8], place: usize) -> Record
     ensures { result ≡ record_of (read_at capture.now place) place }
 {
-    let read = capture::read_at(capture, place);
-    match read {
-        capture::Read::End => Record {
-            refusal: 0,
-            kind: 0,
-            number: 0,
-            asked: 0,
-            allowed: 0,
-            symbols: 0,
-            next: place,
-        },
-        capture::Read::Refused(refusal) => Record {
-            refusal,
-            kind: 0,
-            number: 0,
-            asked: 0,
-            allowed: 0,
-            symbols: 0,
-            next: place,
-        },
-        capture::Read::Order {
-            start,
-            asked,
-            allowed,
-            next,
-        } => Record {
-            refusal: 0,
+    match capture::read_at(capture, place) {
+        Ok(None) => nothing(place),
+        Ok(
+            Some(
+                capture::Record::Order {
+                    start,
+                    asked,
+                    allowed,
+                    next,
+                },
+            ),
+        ) => Record {
             kind: 1,
             number: start,
             asked,
             allowed,
-            symbols: 0,
-            next,
+            ..nothing(next)
         },
-        capture::Read::Frame { number, from, next } => Record {
-            refusal: 0,
+        Ok(Some(capture::Record::Frame { number, from, next })) => Record {
             kind: 2,
             number,
-            asked: 0,
-            allowed: 0,
             symbols: from,
-            next,
+            ..nothing(next)
+        },
+        Err(refusal) => Record {
+            refusal: u32::from(refusal),
+            ..nothing(place)
         },
     }
 }

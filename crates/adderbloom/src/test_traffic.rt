@@ -15,19 +15,19 @@ pub fn lr800_traffic_state(bits: u64) -> u32
 pub fn lr800_traffic_frame(frame: u32, output: &mut [u8]) -> u32
     ensures { Generates frame output.old result output.new }
 {
-    traffic::frame(frame, output)
+    refusal::number(traffic::frame(frame, output))
 }
 
 // The lanes of the frame from a kept state on, and the state after it. Refused: 3, the output is not 5,280 bytes.
 pub fn lr800_traffic_next(state: &mut u32, output: &mut [u8]) -> u32
     ensures { Continues state.old output.old result state.new output.new }
 {
-    traffic::next_frame(state, output)
+    refusal::number(traffic::next_frame(state, output))
 }
 
 // How many bits of each lane of a recovered frame are wrong. Refused: 1, the lanes are not 5,280 bytes; 3, there are not 32 counts.
 pub fn lr800_traffic_check(frame: u32, lanes: &[u8], wrong: &mut [u32]) -> u32
     ensures { Checks frame lanes.now wrong.old result wrong.new }
 {
-    traffic::check(frame, lanes, wrong)
+    refusal::number(traffic::check(frame, lanes, wrong))
 }

@@ -3,9 +3,11 @@ ghost use Rattle.std.specs.Prelude.{◌≡◌};
 ghost use Rattle.account.specs.definitions.Account.{opened, loss_entered};
 ghost use Rattle.adderbloom.specs.definitions.Entry.{flags_entered};
 
+use account::Account;
+
 // The account of a new order, from this number on.
 #[unsafe(no_mangle)]
-pub extern "C" fn lr800_account_open(a: &mut account::Account, start: u32)
+pub extern "C" fn lr800_account_open(a: &mut Account, start: u32)
     ensures { a.new ≡ opened start }
 {
     adderbloom::entries::lr800_account_open(a, start);
@@ -13,7 +15,7 @@ pub extern "C" fn lr800_account_open(a: &mut account::Account, start: u32)
 
 // A frame by its flag bytes. Refused: 4 not 384 of them, 10 late, 11 a limit is passed, 12 some that are tallied are above 3.
 #[unsafe(no_mangle)]
-pub extern "C" fn lr800_account_enter(a: &mut account::Account, got: u32, flags: &[u8]) -> u32
+pub extern "C" fn lr800_account_enter(a: &mut Account, got: u32, flags: &[u8]) -> u32
     ensures { record { refusal = result; account = a.new } ≡ flags_entered a.old got flags.now }
 {
     adderbloom::entries::lr800_account_enter(a, got, flags)
@@ -21,7 +23,7 @@ pub extern "C" fn lr800_account_enter(a: &mut account::Account, got: u32, flags:
 
 // A loss, a frame without lock. Refused: 10 late, 11 a limit is passed.
 #[unsafe(no_mangle)]
-pub extern "C" fn lr800_account_lose(a: &mut account::Account, got: u32) -> u32
+pub extern "C" fn lr800_account_lose(a: &mut Account, got: u32) -> u32
     ensures { record { refusal = result; account = a.new } ≡ loss_entered a.old got }
 {
     adderbloom::entries::lr800_account_lose(a, got)

@@ -7,8 +7,8 @@ use Prim.Native.Nat.{ℕ, zero, suc, ◌^◌, ◌<◌, ◌≤◌}
 use native.Mathlib.Omega.{arith}
 use lib.ListN.{length}
 use Rattle.account.specs.definitions.Account.{opened}
-use Rattle.capture.specs.declared.Read.{Read}
-use Rattle.capture.specs.declared.Read.TheVariants.{Order, Frame}
+use Rattle.capture.specs.definitions.Read.{Read}
+use Rattle.capture.specs.definitions.Read.{Order, Frame}
 use Rattle.capture.specs.definitions.Capture.{layout, read_at, next_of, read_one, symbols_at, wanted, order_record, frame_record, frame_records}
 use Rattle.capture.proofs.Local.{wanted_reads}
 use Rattle.capture.proofs.One.{one_alone}

@@ -22,7 +22,7 @@ use Rattle.bench.proofs.Stops.{is_stopped_lem}
 use Rattle.bench.proofs.Walk.{through_stays, pieces_alike, nothing_passed_over}
 use Rattle.report.specs.definitions.Report.{text}
 use Rattle.adderbloom.specs.declared.runs.Run.{Run}
-use Rattle.adderbloom.specs.declared.runs.Answer.{Answer}
+use Rattle.adderbloom.specs.definitions.Run.{Answer}
 use Rattle.adderbloom.specs.definitions.Run.{phase_number, phase_of, run_of, kept_run, step_answer}
 use Rattle.demands.specs.definitions.Verdict.{Line}
 use Rattle.demands.specs.definitions.Host.{VerdictDue, Hosted}

@@ -18,7 +18,7 @@ use Rattle.pilots.specs.definitions.Pilots.{locks}
 use Rattle.framing.specs.definitions.Receive.{received_flags}
 use Rattle.framing.proofs.Received.{flag_at_lem}
 use Rattle.account.specs.declared.Account.{Account}
-use Rattle.account.specs.declared.Entry.{Entry}
+use Rattle.account.specs.definitions.Account.{Entry}
 use Rattle.account.specs.declared.Tallies.{Tallies}
 use Rattle.account.specs.declared.Verdict.TheVariants.{NotMeasured}
 use Rattle.account.specs.definitions.Account.{frame_limit, ahead, due, counted, tallies_of, total, no_words, grown, over, frame_entered, loss_entered}
@@ -28,8 +28,8 @@ use Rattle.account.proofs.AcceptedEntry.{frame_taken, loss_taken, frame_done}
 use Rattle.account.proofs.VerdictMeaning.{measured_means}
 use Rattle.account.proofs.Fill.{due_most, brings, fewer_than_two}
 use Rattle.account.proofs.Totals.{InTurn, opened_in_turn, frame_in_turn, loss_in_turn}
-use Rattle.capture.specs.declared.Read.{Read}
-use Rattle.capture.specs.declared.Read.TheVariants.{End, Refused, Order, Frame}
+use Rattle.capture.specs.definitions.Read.{Read}
+use Rattle.capture.specs.definitions.Read.{End, Refused, Order, Frame}
 use Rattle.capture.specs.definitions.Capture.{read_at, next_of, symbols_at, frame_number}
 use Rattle.bench.specs.declared.Run.{Run}
 use Rattle.bench.specs.declared.Phase.{Phase}

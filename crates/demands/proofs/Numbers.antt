@@ -12,8 +12,8 @@ use Rattle.pilots.specs.definitions.Pilots.{locks}
 use Rattle.framing.specs.definitions.Receive.{received_flags}
 use Rattle.account.specs.declared.Account.{Account}
 use Rattle.account.specs.definitions.Account.{due, tallies_of, total, ahead, late, over, with_frame, with_loss, frame_entered, loss_entered}
-use Rattle.capture.specs.declared.Read.{Read}
-use Rattle.capture.specs.declared.Read.TheVariants.{End, Refused, Order, Frame}
+use Rattle.capture.specs.definitions.Read.{Read}
+use Rattle.capture.specs.definitions.Read.{End, Refused, Order, Frame}
 use Rattle.capture.specs.definitions.Capture.{more_than_one, more, read_at, read_one, symbols_at}
 use Rattle.capture.proofs.One.{one_numbers, one_is_more}
 use Rattle.bench.specs.declared.Run.{Run}

@@ -15,8 +15,8 @@ use Rattle.framing.specs.definitions.Places.{base}
 use Rattle.framing.specs.definitions.Receive.{received_store, received_lanes, received_flags, receive_number, Receives}
 use Rattle.account.specs.declared.Account.{Account}
 use Rattle.account.specs.definitions.Account.{opened, loss_entered, measured, verdict, verdict_number}
-use Rattle.capture.specs.declared.Read.{Read}
-use Rattle.capture.specs.declared.Read.TheVariants.{End, Refused, Order, Frame}
+use Rattle.capture.specs.definitions.Read.{Read}
+use Rattle.capture.specs.definitions.Read.{End, Refused, Order, Frame}
 use Rattle.capture.specs.definitions.Capture.{read_at, wanted, order_record, frame_records}
 use Rattle.bench.specs.declared.Run.{Run}
 use Rattle.bench.specs.declared.Phase.TheVariants.{Going, Stopped}

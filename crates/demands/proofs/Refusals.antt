@@ -19,11 +19,11 @@ use Rattle.pilots.specs.definitions.Pilots.{met, wrong_pilots, locks}
 use Rattle.framing.proofs.Sending
 use Rattle.framing.proofs.Receiving
 use Rattle.account.specs.declared.Account.{Account}
-use Rattle.account.specs.declared.Entry.{Entry}
+use Rattle.account.specs.definitions.Account.{Entry}
 use Rattle.account.specs.definitions.Account.{due, total, late, over, with_frame, with_loss, frame_entered, loss_entered}
 use Rattle.account.proofs.Kept.{refused_keeps}
-use Rattle.capture.specs.declared.Read.{Read}
-use Rattle.capture.specs.declared.Read.TheVariants.{End, Refused, Order, Frame}
+use Rattle.capture.specs.definitions.Read.{Read}
+use Rattle.capture.specs.definitions.Read.{End, Refused, Order, Frame}
 use Rattle.capture.specs.definitions.Capture.{big_endian_at, refusal_at, read_at, next_of}
 use Rattle.capture.proofs.Cases.{refused_short, refused_version, refused_kind, not_refused_lem, order_refused, frame_refused, order_read, frame_read, at_end}
 use Rattle.capture.proofs.Cases.{no_length, an_order, a_frame, no_lawful}

@@ -7,7 +7,7 @@ use native.Mathlib.Decide.{ℕ_discrete}
 use native.Mathlib.Omega.{arith}
 use borrow.Author.Tests.{ne_eqb}
 use Rattle.account.specs.declared.Account.{Account}
-use Rattle.account.specs.declared.Entry.{Entry}
+use Rattle.account.specs.definitions.Account.{Entry}
 use Rattle.demands.specs.definitions.Tallies.{reported, account_at}
 use Rattle.demands.specs.statements.Tallies.{TalliesAlike}
 use Rattle.demands.proofs.OneForAll.{one_for_all}

@@ -19,8 +19,8 @@ use Rattle.account.specs.declared.Verdict.TheVariants.{NotMeasured, Pass, Fail}
 use Rattle.account.specs.definitions.Account.{total, frame_limit, verdict, verdict_number}
 use Rattle.account.proofs.Totals.{opened_in_turn}
 use Rattle.account.proofs.VerdictMeaning.{MeasuredNumbers, measured_by, judged, passed, failed}
-use Rattle.capture.specs.declared.Read.{Read}
-use Rattle.capture.specs.declared.Read.TheVariants.{End, Refused, Order, Frame}
+use Rattle.capture.specs.definitions.Read.{Read}
+use Rattle.capture.specs.definitions.Read.{End, Refused, Order, Frame}
 use Rattle.capture.specs.definitions.Capture.{layout, read_at, shifted, symbols_at, order_record, frame_record, frame_number, frame_records}
 use Rattle.capture.proofs.Cases.{at_end}
 use Rattle.capture.proofs.Local.{reads_from_here}

@@ -13,8 +13,8 @@ use Rattle.bits.specs.definitions.Bits.{AllBytes}
 use Rattle.pilots.specs.definitions.Pilots.{locks}
 use Rattle.account.specs.definitions.Account.{opened, frame_limit, no_words, measured}
 use Rattle.account.proofs.VerdictMeaning.{measured_means}
-use Rattle.capture.specs.declared.Read.{Read}
-use Rattle.capture.specs.declared.Read.TheVariants.{End, Refused, Order, Frame}
+use Rattle.capture.specs.definitions.Read.{Read}
+use Rattle.capture.specs.definitions.Read.{End, Refused, Order, Frame}
 use Rattle.capture.specs.definitions.Capture.{layout, read_at, next_of, shifted, symbols_at, order_record, frame_record, frame_number, frame_records}
 use Rattle.capture.proofs.Found.{frame_found}
 use Rattle.capture.proofs.Local.{reads_from_here, symbols_here}

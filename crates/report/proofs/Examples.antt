@@ -5,8 +5,8 @@ use Prim.Native.Nat.{ℕ, zero, suc}
 use lib.ListN.{length}
 use Rattle.bits.specs.definitions.Bits.{tabulate, value}
 use Rattle.account.specs.definitions.Account.{measured, verdict}
-use Rattle.capture.specs.declared.Read.{Read}
-use Rattle.capture.specs.declared.Read.TheVariants.{End, Refused, Order, Frame}
+use Rattle.capture.specs.definitions.Read.{Read}
+use Rattle.capture.specs.definitions.Read.{End, Refused, Order, Frame}
 use Rattle.capture.specs.definitions.Capture.{big_endian_at, refusal_at, refused_or, order_at, read_at}
 use Rattle.bench.specs.definitions.Run.{begun, order_came, frame_came, halted, came_as, goes_on, verdict_of}
 use Rattle.bench.specs.definitions.Walk.{walked, examined}

@@ -48,7 +48,7 @@ fn text(run: bench::Run) -> ArrayString<LONGEST>
     put_line(&mut report, "two ", words.two);
     put_line(&mut report, "flagged ", words.flagged);
     report.push_str("verdict ");
-    report.push_str(verdict_name(bench::verdict_of(run)));
+    report.push_str(verdict_name(run.verdict()));
     report.push('\n');
     report
 }

@@ -4,4 +4,4 @@ use Rattle.account.specs.definitions.Account.{verdict_number}
 use Rattle.adderbloom.proofs.lr800_verdict.Goals as goal
 
 pub returns : goal.returns
-returns c = c.verdict_number.ensures ∙ ap verdict_number c.verdict_of-v.ensures
+returns c = c.from.ensures ∙ ap verdict_number c.verdict.ensures

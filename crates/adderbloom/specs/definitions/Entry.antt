@@ -2,7 +2,7 @@
 -- Assumes nothing.
 use Rattle.std.specs.Prelude.{cond, List, ℕ, eqb, length}
 use Rattle.account.specs.declared.Account.{Account}
-use Rattle.account.specs.declared.Entry.{Entry}
+use Rattle.account.specs.definitions.Account.{Entry}
 use Rattle.account.specs.definitions.Account.{tallies_of, frame_entered}
 
 -- refusal 4 for other than 384 flag bytes, before what the account refuses; else the frame with the tallies of its flags

@@ -1,7 +1,6 @@
 -- What a search says, as numbers for a host in C.
 -- Assumes nothing.
-use Rattle.hunt.specs.declared.Found.{Found}
-use Rattle.hunt.specs.declared.Found.TheVariants.{Refused, None, At}
+use Rattle.hunt.specs.definitions.Found.{Found, Refused, None, At}
 use Rattle.adderbloom.specs.declared.hunts.Found.{Found as Numbers}
 
 -- the refusal's number or 0; 1 where a start was found, else 0; its offset, 0 where none was found

@@ -1,8 +1,7 @@
 -- What stands at a place of a capture, as numbers for a host in C.
 -- Assumes nothing.
 use Rattle.std.specs.Prelude.{ℕ}
-use Rattle.capture.specs.declared.Read.{Read}
-use Rattle.capture.specs.declared.Read.TheVariants.{End, Refused, Order, Frame}
+use Rattle.capture.specs.definitions.Read.{Read, End, Refused, Order, Frame}
 use Rattle.adderbloom.specs.declared.records.Record.{Record}
 
 -- what was read at a place: the refusal's number or 0; the kind, 0 for none, 1 for an order, 2 for a frame; the frame's number, or that of the first

@@ -6,7 +6,11 @@ use Rattle.bench.specs.declared.Phase.{Phase}
 use Rattle.bench.specs.declared.Phase.TheVariants.{Unordered, Going, Stopped}
 use Rattle.bench.specs.definitions.Run.{stepped, step_refusal}
 use Rattle.adderbloom.specs.declared.runs.Run.{Run}
-use Rattle.adderbloom.specs.declared.runs.Answer.{Answer}
+
+-- a step's answer: its number, and the run
+pub record Answer : Type 0 where
+  pub refusal : ℕ
+  pub run : Run
 
 -- the phase's number (house: what is all zero has no order)
 unfoldable pub phase_number : Phase → ℕ

@@ -3,7 +3,7 @@
 use Rattle.std.specs.Prelude.{cond, List, ◌++◌, ℕ, zero, suc, eqb}
 use Rattle.lanes.specs.definitions.Permutation.{Places}
 use Rattle.account.specs.declared.Account.{Account}
-use Rattle.account.specs.declared.Entry.{Entry}
+use Rattle.account.specs.definitions.Account.{Entry}
 use Rattle.account.specs.definitions.Account.{tallies_of, frame_entered, loss_entered}
 use Rattle.capture.specs.definitions.Capture.{order_record, frame_records}
 use Rattle.demands.specs.definitions.Trial.{hit, Trial}

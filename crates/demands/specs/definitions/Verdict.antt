@@ -8,7 +8,7 @@ use Rattle.decoder.specs.definitions.Mend.{mend, flag_of}
 use Rattle.symbols.specs.definitions.Frame.{arrived}
 use Rattle.pilots.specs.definitions.Pilots.{locks}
 use Rattle.account.specs.definitions.Account.{frame_limit}
-use Rattle.capture.specs.declared.Read.TheVariants.{Frame}
+use Rattle.capture.specs.definitions.Read.{Frame}
 use Rattle.capture.specs.definitions.Capture.{layout, read_at, order_record, frame_number, frame_records}
 use Rattle.bench.specs.declared.Run.{Run}
 use Rattle.bench.specs.declared.Phase.TheVariants.{Going}

@@ -7,7 +7,7 @@ use Rattle.pilots.specs.definitions.Pilots.{frame_symbols, lock_limit}
 use Rattle.framing.specs.definitions.Send.{Sends}
 use Rattle.framing.specs.definitions.Receive.{Receives}
 use Rattle.hunt.specs.declared.Hunt.{Hunt}
-use Rattle.hunt.specs.declared.Found.TheVariants as found
+use Rattle.hunt.specs.definitions.Found as found
 use Rattle.hunt.specs.definitions.Find.{find, FoundBy}
 use Rattle.hunt.specs.definitions.Pieces.{answer, FeedRun, joined}
 use Rattle.adderbloom.specs.definitions.Found.{found_of}

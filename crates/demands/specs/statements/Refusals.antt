@@ -7,12 +7,12 @@ use Rattle.lanes.specs.definitions.Permutation.{Places}
 use Rattle.pilots.specs.definitions.Table5.{pilots}
 use Rattle.framing.specs.definitions.Send.{Sends}
 use Rattle.framing.specs.definitions.Receive.{Receives}
-use Rattle.capture.specs.declared.Read.{Read}
-use Rattle.capture.specs.declared.Read.TheVariants.{End, Refused}
+use Rattle.capture.specs.definitions.Read.{Read}
+use Rattle.capture.specs.definitions.Read.{End, Refused}
 use Rattle.capture.specs.definitions.Capture.{big_endian_at, read_at, next_of}
 use Rattle.account.specs.declared.Tallies.{Tallies}
 use Rattle.account.specs.declared.Account.{Account}
-use Rattle.account.specs.declared.Entry.{Entry}
+use Rattle.account.specs.definitions.Account.{Entry}
 use Rattle.account.specs.definitions.Account.{total, due, ahead, with_frame, with_loss, frame_entered, loss_entered}
 use Rattle.demands.specs.definitions.Refusals.{Above}
 

@@ -7,7 +7,7 @@ use Rattle.bits.specs.definitions.Bits.{AllBytes}
 use Rattle.pilots.specs.definitions.Pilots.{locks}
 use Rattle.account.specs.definitions.Account.{total}
 use Rattle.account.specs.definitions.Kept.{Totals}
-use Rattle.capture.specs.declared.Read.TheVariants.{Order}
+use Rattle.capture.specs.definitions.Read.{Order}
 use Rattle.capture.specs.definitions.Capture.{read_at, more, frame_number}
 use Rattle.bench.specs.declared.Run.{Run}
 use Rattle.bench.specs.definitions.Run.{is_stopped, step_refusal}

@@ -12,7 +12,7 @@ returns c =
       c.push.ensures.ascii (omega arith),
       c.push_str-2.ensures.bytes,
       c.verdict_name.ensures.name,
-      c.verdict_of.ensures,
+      c.verdict.ensures,
       c.push_str.ensures.bytes,
       c.put_line-7.ensures.bytes,
       c.put_line-6.ensures.bytes,

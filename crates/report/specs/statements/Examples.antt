@@ -4,7 +4,7 @@
 use Rattle.std.specs.Prelude.{◌≡◌, ◌≢◌, ℕ, ◌-◌, ◌^◌, ◌≤◌, ◌<◌, length, get_or}
 use mathlib.Core.List.{List, Memᴰ}
 use Rattle.bits.specs.definitions.Bits.{value}
-use Rattle.capture.specs.declared.Read.TheVariants.{Order}
+use Rattle.capture.specs.definitions.Read.{Order}
 use Rattle.capture.specs.definitions.Capture.{read_at}
 use Rattle.capture.specs.definitions.Examples.{lone_order}
 use Rattle.bench.specs.definitions.Walk.{examined}

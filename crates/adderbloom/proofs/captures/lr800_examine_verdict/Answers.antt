@@ -5,4 +5,4 @@ use Rattle.bench.specs.definitions.Run.{verdict_of}
 use Rattle.adderbloom.proofs.captures.lr800_examine_verdict.Goals as goal
 
 pub returns : goal.returns
-returns c = c.verdict_number.ensures ∙ ap verdict_number (c.verdict_of.ensures ∙ ap verdict_of c.examine_capture-run.ensures)
+returns c = c.from.ensures ∙ ap verdict_number (c.verdict.ensures ∙ ap verdict_of c.examine_capture.ensures)

@@ -1,13 +1,14 @@
--- `adderbloom::entries::enter_flags` meets its contract: refused by their count, or entered. Assumes nothing.
-use mathlib.Core.Path.{refl}
-use Rattle.adderbloom.proofs.Calls.{flags_refused, flags_taken}
+-- `adderbloom::entries::enter_flags` meets its contract: refused by the flags' number, or entered. Assumes nothing.
+use Rattle.std.proofs.Common.{rules}
+use Rattle.adderbloom.specs.definitions.Entry.{flags_entered}
 use Rattle.adderbloom.proofs.entries.enter_flags.Goals as goal
 
-pub returns-then-flags-ne384 : goal.returns-then-flags-ne384
-returns-then-flags-ne384 c = let x = c.args in flags_refused x.a x.got x.flags.now c.if-flags-ne384.true
+pub returns-in_err-flags : goal.returns-in_err-flags
+unfolding flags_entered
+returns-in_err-flags c = search rules
 
 pub returns : goal.returns
+unfolding flags_entered
 returns c =
-    let x = c.args in
-    flags_taken x.a x.got x.flags.now c.if-flags-ne384.false _ _
-    c.copy.ensures refl _ c.tallies_of-t.ensures _ c.enter.ensures
+    let flags = rw c.in_ok-flags.ensures.ok_part at c.as_array.ensures.cases in
+    search rules

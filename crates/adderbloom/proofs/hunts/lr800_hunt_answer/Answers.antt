@@ -4,4 +4,4 @@ use Rattle.adderbloom.specs.definitions.Found.{found_of}
 use Rattle.adderbloom.proofs.hunts.lr800_hunt_answer.Goals as goal
 
 pub returns : goal.returns
-returns c = c.found_of.ensures ∙ ap found_of c.answer-f.ensures
+returns c = c.from.ensures ∙ ap found_of c.answer.ensures

@@ -1,30 +1,20 @@
--- `adderbloom::records::lr800_read` meets its contract, by what was read. Assumes nothing.
-use mathlib.Core.Path.{sym, ◌∙◌}
-use Rattle.bits.proofs.Cases.{at_case}
-use Rattle.capture.specs.declared.Read.{Read}
+-- `adderbloom::records::lr800_read` meets its contract: what was read, as numbers. Assumes nothing.
+use Rattle.std.proofs.Common.{rules}
 use Rattle.adderbloom.specs.definitions.Record.{record_of}
 use Rattle.adderbloom.proofs.records.lr800_read.Goals as goal
 
-pub returns-in-End : goal.returns-in-End
+pub returns-in-Ok-None : goal.returns-in-Ok-None
 unfolding record_of
-returns-in-End c =
-    at_case (λ (r : Read). record_of r c.args.place) (sym c.read_at-read.ensures
-    ∙ c.in-End.is)
+returns-in-Ok-None c = search rules
 
-pub returns-in-Refused : goal.returns-in-Refused
+pub returns-in-Ok-Some-Order : goal.returns-in-Ok-Some-Order
 unfolding record_of
-returns-in-Refused c =
-    at_case (λ (r : Read). record_of r c.args.place) (sym c.read_at-read.ensures
-    ∙ c.in-Refused.is)
+returns-in-Ok-Some-Order c = search rules
 
-pub returns-in-Order : goal.returns-in-Order
+pub returns-in-Ok-Some-Frame : goal.returns-in-Ok-Some-Frame
 unfolding record_of
-returns-in-Order c =
-    at_case (λ (r : Read). record_of r c.args.place) (sym c.read_at-read.ensures
-    ∙ c.in-Order.is)
+returns-in-Ok-Some-Frame c = search rules
 
-pub returns-in-Frame : goal.returns-in-Frame
+pub returns-in-Err : goal.returns-in-Err
 unfolding record_of
-returns-in-Frame c =
-    at_case (λ (r : Read). record_of r c.args.place) (sym c.read_at-read.ensures
-    ∙ c.in-Frame.is)
+returns-in-Err c = search rules

@@ -1,17 +1,16 @@
--- `adderbloom::runs::phase_of` meets its contract: the tests are the definition's. Assumes nothing.
-use mathlib.Core.Path.{refl}
-use borrow.Author.Tests.{eq-eqb, ne_eqb}
+-- `adderbloom::runs::phase_of` meets its contract, number by number. Assumes nothing.
+use Rattle.std.proofs.Common.{rules}
 use Rattle.adderbloom.specs.definitions.Run.{phase_of}
 use Rattle.adderbloom.proofs.runs.phase_of.Goals as goal
 
-pub returns-then-n-eq0 : goal.returns-then-n-eq0
+pub returns-in-0 : goal.returns-in-0
 unfolding phase_of
-returns-then-n-eq0 c = rw (eq-eqb _ _ c.if-n-eq0.true) refl
+returns-in-0 c = search rules
 
-pub returns-then-n-ne1 : goal.returns-then-n-ne1
+pub returns-in-1 : goal.returns-in-1
 unfolding phase_of
-returns-then-n-ne1 c = rw (ne_eqb _ _ c.if-n-eq0.false, ne_eqb _ _ c.if-n-ne1.true) refl
+returns-in-1 c = search rules
 
-pub returns : goal.returns
+pub returns-in_default : goal.returns-in_default
 unfolding phase_of
-returns c = rw (ne_eqb _ _ c.if-n-eq0.false, eq-eqb _ _ c.if-n-ne1.false) refl
+returns-in_default c = search rules
