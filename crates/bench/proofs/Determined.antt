@@ -1,8 +1,8 @@
 -- Each public function's contract fixes its outcome: two outcomes of one call that satisfy its `ensures`, as the source states it, are equal.
 -- Assumes nothing.
 use mathlib.Core.Path.{◌≡◌, refl, sym, ◌∙◌}
-use Rattle.bits.proofs.Fixes.{Fixes}
 use Rattle.refusal.proofs.Numbers.{answer_injective}
+use Rattle.bits.proofs.Fixes.{Fixes}
 use Rattle.bench.proofs.Run.step.Kinds as step-kinds
 use Rattle.bench.proofs.Run.step.Reads as step-reads
 use Rattle.bench.proofs.Run.stop.Kinds as stop-kinds
@@ -20,7 +20,6 @@ use Rattle.bench.proofs.Run.verdict.Reads as verdict-reads
 pub step_determined : Fixes 2 step-kinds.ps step-kinds.r step-reads.Post (λ κs s t. s.0.now ≡ t.0.now)
 step_determined κs a x y s t p q = (answer_injective (p.0 ∙ sym q.0), p.1 ∙ sym q.1)
 
--- the run at exit
 pub stop_determined : Fixes 1 stop-kinds.ps stop-kinds.r stop-reads.Post (λ κs s t. s.0.now ≡ t.0.now)
 stop_determined κs a x y s t p q = (refl, p ∙ sym q)
 

@@ -9,8 +9,7 @@ use native.Mathlib.Decide.{dec_lt}
 use native.Mathlib.Omega.{arith}
 use lib.ListN.{length, drop}
 use borrow.Author.Tests.{lt-ltb, le-ltb}
-use Rattle.capture.specs.definitions.Read.{Read}
-use Rattle.capture.specs.definitions.Read.{End, Refused, Order, Frame}
+use Rattle.capture.specs.definitions.Read.{Read, End, Refused, Order, Frame}
 use Rattle.capture.specs.definitions.Capture.{read_at, next_of, shifted, wanted}
 use Rattle.capture.proofs.Cases.{at_end}
 use Rattle.capture.proofs.Local.{reads_from_here, wanted_reads, wanted_bounds}

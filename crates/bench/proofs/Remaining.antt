@@ -11,13 +11,11 @@ use borrow.Author.Tests.{ne_eqb}
 use Rattle.pilots.specs.definitions.Pilots.{locks}
 use Rattle.framing.specs.definitions.Receive.{received_flags}
 use Rattle.account.specs.declared.Account.{Account}
-use Rattle.account.specs.definitions.Account.{Entry}
 use Rattle.account.specs.declared.Tallies.{Tallies}
-use Rattle.account.specs.definitions.Account.{frame_limit, tallies_of, frame_entered, loss_entered}
+use Rattle.account.specs.definitions.Account.{Entry, frame_limit, tallies_of, frame_entered, loss_entered}
 use Rattle.account.proofs.Limits.{under}
 use Rattle.account.proofs.AcceptedEntry.{frame_taken, loss_taken}
-use Rattle.capture.specs.definitions.Read.{Read}
-use Rattle.capture.specs.definitions.Read.{End, Refused, Order, Frame}
+use Rattle.capture.specs.definitions.Read.{Read, End, Refused, Order, Frame}
 use Rattle.capture.specs.definitions.Capture.{read_one, symbols_at}
 use Rattle.bench.specs.declared.Run.{Run}
 use Rattle.bench.specs.declared.Phase.{Phase}

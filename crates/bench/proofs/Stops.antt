@@ -9,8 +9,7 @@ use native.Mathlib.Decide.{ℕ_discrete}
 use native.Mathlib.Omega.{arith}
 use borrow.Author.Tests.{ne_eqb}
 use Rattle.account.specs.definitions.Account.{Entry}
-use Rattle.capture.specs.definitions.Read.{Read}
-use Rattle.capture.specs.definitions.Read.{End, Refused, Order, Frame}
+use Rattle.capture.specs.definitions.Read.{Read, End, Refused, Order, Frame}
 use Rattle.capture.specs.definitions.Capture.{more_than_one, read_one, symbols_at}
 use Rattle.capture.proofs.One.{one_numbers}
 use Rattle.bench.specs.declared.Run.{Run}

@@ -4,8 +4,8 @@ use mathlib.Core.Path.{◌≡◌, refl, sym, ap, ◌∙◌, subst}
 use mathlib.Core.Bool.{true, cond}
 use mathlib.Core.List.{List, [], ◌∷◌, ◌++◌, append_assoc, append-nil}
 use mathlib.Core.Logic.{◌⊎◌, inl, inr}
-use Prim.Native.Nat.{ℕ, zero, suc, ◌+◌, ◌-◌, ◌≤◌, ◌<◌}
-use native.Mathlib.Decide.{ℕ_discrete, dec_lt}
+use Prim.Native.Nat.{ℕ, zero, suc, ◌+◌, ◌≤◌, ◌<◌}
+use native.Mathlib.Decide.{dec_lt, ℕ_discrete}
 use native.Mathlib.Omega.{arith}
 use lib.Dec.{eqb}
 use lib.ListN.{length, take, drop, length-drop, length-append}
@@ -13,8 +13,7 @@ use lib.Seq.{drop-drop, take_all, take-append_seam, drop-append_seam}
 use borrow.Author.Tests.{eq-eqb, ne_eqb}
 use Rattle.capture.specs.declared.Record.{Record}
 use Rattle.capture.specs.declared.Record.TheVariants as found
-use Rattle.capture.specs.definitions.Read.{Read, record_in}
-use Rattle.capture.specs.definitions.Read.{End, Refused, Order, Frame}
+use Rattle.capture.specs.definitions.Read.{record_in, Read, End, Refused, Order, Frame}
 use Rattle.capture.specs.definitions.Capture.{read_at, next_of, read_one, shifted, symbols_at, wanted}
 use Rattle.capture.proofs.Found.{Stands, stands, order_found, frame_found}
 use Rattle.capture.proofs.Cases.{at_end}
@@ -192,53 +191,30 @@ module _ (s : List ℕ) (i : ℕ) (r : Run) (A : Ahead s i r) (h : i < length s)
   pub walk_stops : next ≤ i → new ≡ examined s
   walk_stops l = let T = one_on A.0 A.1 A.2 in sym (walked_stays new (stays_stopped l) T.0 s next) ∙ T.2
 
--- the loop's step, by what was read at its place
-module _ (s : List ℕ) (i : ℕ) (r : Run) (A : Ahead s i r) (read : Read) (is : read ≡ read_at s i) (new : Run) (came : new ≡ came_as read r s) where
-  -- a record lies at a place of the capture, and behind that place
-  moves : (x : Record) → read ≡ record_in x → (i < length s) × (i < next_of (record_in x) 0)
-  moves (found.Order start asked allowed next) e =
-      let F = order_found s i (sym is ∙ e) in
-      let inside = F.whole.inside in
-      let next = F.next_is in
-      (omega arith, omega arith)
-  moves (found.Frame number from next) e =
-      let F = frame_found s i (sym is ∙ e) in
-      let inside = F.whole.inside in
-      let next = F.next_is in
-      (omega arith, omega arith)
+-- a record lies before the end, and ends behind its place
+pub record_inside : (s : List ℕ) (i : ℕ) (x : Record) → record_in x ≡ read_at s i → (i < length s) × (i < next_of (record_in x) 0)
+record_inside s i (found.Order start asked allowed next) e =
+    let O = order_found s i (sym e) in let w = O.whole.inside in let n = O.next_is in (omega arith, omega arith)
+record_inside s i (found.Frame number from next) e =
+    let F = frame_found s i (sym e) in let w = F.whole.inside in let n = F.next_is in (omega arith, omega arith)
 
-  next_alike : (x : Record) → next_of (record_in x) 0 ≡ next_of (record_in x) i
-  next_alike (found.Order start asked allowed next) = refl
-  next_alike (found.Frame number from next) = refl
+module _ (s : List ℕ) (i : ℕ) (r : Run) where
+  -- behind a record the walk goes on
+  pub walk_record : Ahead s i r → (x : Record) → record_in x ≡ read_at s i → (new : Run) → new ≡ came_as (record_in x) r s
+      → Ahead s (next_of (record_in x) 0) new
+  walk_record A (found.Order start asked allowed next) e new came =
+      let h = record_inside s i (found.Order start asked allowed next) e in walk_goes s i r A h.0 _ e new came next refl h.1
+  walk_record A (found.Frame number from next) e new came =
+      let h = record_inside s i (found.Frame number from next) e in walk_goes s i r A h.0 _ e new came next refl h.1
 
-  pub over_record : (x : Record) → read ≡ record_in x → (next : ℕ) → next ≡ next_of (record_in x) 0 → Ahead s next new
-  over_record x e next n =
-      let m = moves x e in
-      walk_goes s i r A m.0 read is new came next (n ∙ next_alike x ∙ ap (λ (y : Read). next_of y i) (sym e)) (rw n m.1)
-
-  -- and the place is nearer the end
-  pub record_nearer : (x : Record) → read ≡ record_in x → (next : ℕ) → next ≡ next_of (record_in x) 0 → length s - next < length s - i
-  record_nearer x e next n = let m = moves x e in rw n (let a = m.0 in let b = m.1 in omega arith)
-
-  pub over_end : read ≡ End → new ≡ examined s
+  -- and else it is over: at the end, or at a refusal
+  pub walk_over : Ahead s i r → (read : Read) → read ≡ read_at s i → next_of read i ≡ i → (new : Run) → new ≡ came_as read r s → new ≡ examined s
   unfolding came_as
-  over_end e = came ∙ ap (λ (y : Read). came_as y r s) e ∙ walk_ends s i r A (end s i (sym is ∙ e))
-
-  pub over_refused : (refusal : ℕ) → read ≡ Refused refusal → new ≡ examined s
-  over_refused refusal e = at (dec_lt i (length s))
+  walk_over A read e stays new came = go (dec_lt i (length s))
     where
-      differ : End ≡ Refused refusal → new ≡ examined s
-      differ z = absurd (subst kind z tt)
-        where
-          kind : Read → Type 0
-          kind End = Unit
-          kind (Refused refusal) = ⊥
-          kind (Order start asked allowed next) = ⊥
-          kind (Frame number from next) = ⊥
-
-      at : Dec (i < length s) → new ≡ examined s
-      at (yes h) = walk_stops s i r A h read is new came i (ap (λ (y : Read). next_of y i) (sym e)) (omega arith)
-      at (no h) = differ (at_end s i (omega arith) ∙ sym is ∙ e)
+      go : Dec (i < length s) → new ≡ examined s
+      go (yes h) = walk_stops s i r A h read e new came i (sym stays) (omega arith)
+      go (no h) = came ∙ ap (λ (x : Read). came_as x r s) (e ∙ sym (at_end s i (omega arith))) ∙ walk_ends s i r A (omega arith)
 
 -- ---- reading record by record
 

@@ -1,14 +1,12 @@
 // The run of a capture, record by record.
 #![tactic(auto)]
 
-ghost use Rattle.std.specs.Prelude.{◌≡◌, if◌then◌else◌, length};
-ghost use Rattle.refusal.specs.definitions.Refusal.{number_of, answer_of};
+ghost use Rattle.std.specs.Prelude.{◌≡◌, length};
+ghost use Rattle.refusal.specs.definitions.Refusal.{answer_of};
 ghost use Rattle.capture.specs.definitions.Read.{read_in};
-ghost use Rattle.bench.specs.definitions.Run.{begun, stopped, is_stopped, framed, entry_of, order_came, frame_came, frame_refusal, halted};
-ghost use Rattle.bench.specs.definitions.Run.{refusal_of, came_as, stepped, step_refusal, goes_on, verdict_of};
+ghost use Rattle.bench.specs.definitions.Run.{begun, stopped, is_stopped, entry_of, refusal_of, came_as, stepped, step_refusal, verdict_of};
 ghost use Rattle.bench.specs.definitions.Walk.{examined};
 ghost use Rattle.bench.specs.private.Frame.{SymbolsThere};
-ghost use Rattle.bench.specs.declared.Phase.TheVariants.{Going};
 
 use account::{Account, Verdict};
 use capture::Record;
@@ -31,7 +29,7 @@ pub struct Run {
     pub account: Account,
 }
 
-// A frame is entered in the account with the tallies of its flags, or, without lock, as a loss.
+// A frame entered with the tallies of its flags, or, without lock, as a loss.
 fn enter_frame(account: &mut Account, got: u32, symbols: &[u8]) -> Result<(), Refusal>
     requires { length symbols.now ≡ 6144 }
     ensures { record { refusal = answer_of result; account = account.new } ≡ entry_of account.old got symbols.now }
@@ -60,110 +58,75 @@ impl Run {
         }
     }
 
-    // The run stops: its figures and its account stay.
+    // Stops the run: its figures and its account stay.
     pub fn stop(&mut self)
         ensures { self.new ≡ stopped self.old }
     {
         self.phase = Phase::Stopped;
     }
 
-    // Whether it has.
+    // Whether it is stopped.
+    #[tactic(auto, unfolding(crate::specs::definitions::Run::is_stopped))]
     pub fn is_stopped(&self) -> bool
         ensures { result ≡ is_stopped self.now.phase }
     {
         self.phase == Phase::Stopped
     }
 
-    // An order came: the first is taken, with a new account; a second one stops the run.
-    fn order_came(&mut self, start: u32, asked: u32, allowed: u32)
-        ensures { self.new ≡ order_came self.old.phase self.old start asked allowed }
+    // What was read in some bytes, and what it changes of the run: the first order opens the account, and a frame is entered. A refusal, a second order and a
+    // frame before any order stop the run, and a run that is stopped changes no more.
+    #[tactic(auto, using(crate::proofs::Coming::coming))]
+    fn came(&mut self, read: Result<Option<Record>, Refusal>, bytes: &[u8]) -> Result<(), Refusal>
+        requires { SymbolsThere (read_in read) bytes.now }
+        ensures refusal { answer_of result ≡ refusal_of (read_in read) self.old bytes.now }
+        ensures run { self.new ≡ came_as (read_in read) self.old bytes.now }
     {
-        match self.phase {
-            Phase::Unordered => {
+        match (self.phase, read) {
+            (Phase::Stopped, _) | (_, Ok(None)) => Ok(()),
+            (_, Err(refusal)) => {
+                self.stop();
+                Err(refusal)
+            }
+            (
+                Phase::Unordered,
+                Ok(
+                    Some(
+                        Record::Order {
+                            start,
+                            asked,
+                            allowed,
+                            ..
+                        },
+                    ),
+                ),
+            ) => {
                 *self = Run {
                     phase: Phase::Going,
                     asked,
                     allowed,
                     account: Account::opened(start),
                 };
+                Ok(())
             }
-            Phase::Going => self.stop(),
-            Phase::Stopped => {}
-        }
-    }
-
-    // A frame is entered while the run goes on; a refused entry stops it.
-    fn framed(&mut self, got: u32, symbols: &[u8]) -> Result<(), Refusal>
-        requires whole { length symbols.now ≡ 6144 }
-        requires on { self.old.phase ≡ Going }
-        ensures refusal { answer_of result ≡ (entry_of self.old.account got symbols.now).refusal }
-        ensures run { self.new ≡ framed self.old got symbols.now }
-    {
-        let entered = enter_frame(&mut self.account, got, symbols);
-        if entered.is_err() {
-            self.stop();
-        }
-        entered
-    }
-
-    // A frame came: before any order it stops the run.
-    fn frame_came(&mut self, got: u32, symbols: &[u8]) -> Result<(), Refusal>
-        requires { length symbols.now ≡ 6144 }
-        ensures refusal { answer_of result ≡ frame_refusal self.old.phase self.old got symbols.now }
-        ensures run { self.new ≡ frame_came self.old.phase self.old got symbols.now }
-    {
-        match self.phase {
-            Phase::Unordered => {
+            (Phase::Going, Ok(Some(Record::Frame { number, from, .. }))) => {
+                let symbols = capture::symbols_at(bytes, from);
+                let entered = enter_frame(&mut self.account, number, symbols);
+                if entered.is_err() {
+                    self.stop();
+                }
+                entered
+            }
+            // a frame before any order, or a second order
+            (Phase::Unordered | Phase::Going, Ok(Some(_))) => {
                 self.stop();
                 Ok(())
             }
-            Phase::Going => self.framed(got, symbols),
-            Phase::Stopped => Ok(()),
-        }
-    }
-
-    // A refused record came: it stops the run.
-    fn halted(&mut self, refusal: Refusal) -> Result<(), Refusal>
-        ensures refusal { answer_of result ≡ (if is_stopped self.old.phase then 0 else number_of refusal) }
-        ensures run { self.new ≡ halted self.old.phase self.old }
-    {
-        if self.is_stopped() {
-            return Ok(());
-        }
-        self.stop();
-        Err(refusal)
-    }
-
-    // What was read in some bytes, and what it changes of the run.
-    fn came(&mut self, read: Result<Option<Record>, Refusal>, bytes: &[u8]) -> Result<(), Refusal>
-        requires { SymbolsThere (read_in read) bytes.now }
-        ensures refusal { answer_of result ≡ refusal_of (read_in read) self.old bytes.now }
-        ensures run { self.new ≡ came_as (read_in read) self.old bytes.now }
-    {
-        match read {
-            Ok(None) => Ok(()),
-            Ok(
-                Some(
-                    Record::Order {
-                        start,
-                        asked,
-                        allowed,
-                        ..
-                    },
-                ),
-            ) => {
-                self.order_came(start, asked, allowed);
-                Ok(())
-            }
-            Ok(Some(Record::Frame { number, from, .. })) => {
-                self.frame_came(number, capture::symbols_at(bytes, from))
-            }
-            Err(refusal) => self.halted(refusal),
         }
     }
 
     // One record's bytes alone, and what they change. No bytes change nothing; what else is no single record only stops the run, and a run that is stopped
-    // changes no more.
+    // changes no more. The refusal is the one by which the record stopped the run.
+    #[tactic(auto, unfolding(crate::specs::definitions::Run::stepped, crate::specs::definitions::Run::step_refusal))]
     pub fn step(&mut self, piece: &[u8]) -> Result<(), Refusal>
         ensures refusal { answer_of result ≡ step_refusal self.old piece.now }
         ensures run { self.new ≡ stepped self.old piece.now }
@@ -171,12 +134,13 @@ impl Run {
         self.came(capture::read_one(piece), piece)
     }
 
-    // The verdict: without an order, or stopped, the run is not measured.
+    // The verdict of a run.
+    #[tactic(auto, unfolding(crate::specs::definitions::Run::verdict_of, crate::specs::definitions::Run::goes_on))]
     pub fn verdict(&self) -> Verdict
         ensures { result ≡ verdict_of self.now }
     {
-        self.account
-            .verdict(self.asked, self.allowed, self.phase != Phase::Going)
+        let going = self.phase == Phase::Going;
+        self.account.verdict(self.asked, self.allowed, !going)
     }
 }
 
@@ -189,9 +153,9 @@ pub fn examine_capture(capture: &[u8]) -> Run
     loop {
         let read = capture::read_at(capture, place);
         let _ = run.came(read, capture);
-        let Ok(Some(record)) = read else {
-            return run;
-        };
-        place = record.next();
+        match read {
+            Ok(Some(found)) => place = found.next(),
+            Ok(None) | Err(_) => return run,
+        }
     }
 }

@@ -4,11 +4,9 @@ use Rattle.std.specs.Prelude.{Bool, true, false, cond, not, List, ℕ, eqb}
 use Rattle.pilots.specs.definitions.Pilots.{locks}
 use Rattle.framing.specs.definitions.Receive.{received_flags}
 use Rattle.account.specs.declared.Account.{Account}
-use Rattle.account.specs.definitions.Account.{Entry}
 use Rattle.account.specs.declared.Verdict.{Verdict}
-use Rattle.account.specs.definitions.Account.{tallies_of, opened, frame_entered, loss_entered, verdict}
-use Rattle.capture.specs.definitions.Read.{Read}
-use Rattle.capture.specs.definitions.Read.{End, Refused, Order, Frame}
+use Rattle.account.specs.definitions.Account.{Entry, tallies_of, opened, frame_entered, loss_entered, verdict}
+use Rattle.capture.specs.definitions.Read.{Read, End, Refused, Order, Frame}
 use Rattle.capture.specs.definitions.Capture.{read_one, symbols_at}
 use Rattle.bench.specs.declared.Run.{Run}
 use Rattle.bench.specs.declared.Phase.{Phase}

@@ -1,8 +1,7 @@
 -- The walk over a whole capture, and the same record by record, as a program walks that holds one record at a time (01, account and verdict).
 -- Assumes nothing.
 use Rattle.std.specs.Prelude.{◌≡◌, ◌⊎◌, Bool, true, cond, List, [], ◌∷◌, ◌++◌, ℕ, zero, suc, ◌-◌, ◌<◌, eqb, ltb, length, take, drop}
-use Rattle.capture.specs.definitions.Read.{Read}
-use Rattle.capture.specs.definitions.Read.{End}
+use Rattle.capture.specs.definitions.Read.{Read, End}
 use Rattle.capture.specs.definitions.Capture.{read_at, next_of, wanted}
 use Rattle.bench.specs.declared.Run.{Run}
 use Rattle.bench.specs.definitions.Run.{begun, stopped, is_stopped, came_as, stepped}
