@@ -1,5 +1,4 @@
-// Bits, words and rows, and the laws of them that every other crate cites. The code is what changes a number's width, or moves bytes, without a
-// question asked.
+// Bits, words and rows, and the laws of them that every other crate cites. The code is what moves bytes without a question asked.
 #![tactic(auto)]
 
 ghost use Rattle.std.specs.Prelude.{◌≡◌, ◌%◌, ◌^◌, ◌<◌, length};
@@ -17,8 +16,6 @@ pub const TWO_40: u64 = 1 << 40;
 
 pub const TWO_48: u64 = 1 << 48;
 
-pub const TWO_56: u64 = 1 << 56;
-
 pub const TWO_62: u64 = 1 << 62;
 
 // A word in two numbers: bits 0 to 61 are the 62 low bits of hi, bits 62 to 125 are lo.
@@ -26,34 +23,6 @@ pub const TWO_62: u64 = 1 << 62;
 pub struct Word {
     pub hi: u64,
     pub lo: u64,
-}
-
-// A byte as a number of 64 bits.
-pub fn wide8(x: u8) -> u64
-    ensures { (result ≡ x) × (result < 256) }
-{
-    x as u64
-}
-
-// A number of 16 bits as one of 64.
-pub fn wide16(x: u16) -> u64
-    ensures { (result ≡ x) × (result < 65536) }
-{
-    x as u64
-}
-
-// A number of 32 bits as one of 64.
-pub fn wide32(x: u32) -> u64
-    ensures { (result ≡ x) × (result < 2 ^ 32) }
-{
-    x as u64
-}
-
-// The lowest byte of a number.
-pub fn low_byte(x: u64) -> u8
-    ensures { result ≡ x % 256 }
-{
-    (x % 256) as u8
 }
 
 // The eight bytes from byte o on as a number, the first on top. 0 where there are not eight.
