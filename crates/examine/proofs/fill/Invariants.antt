@@ -1,12 +1,14 @@
--- `examine::fill` meets its contract: each step that goes on leaves less to read, and what stands before stays. Assumes nothing.
-use Rattle.std.proofs.Common.{◌≡◌, false, ◌-◌, ◌≤◌, length, take}
-use Rattle.examine.specs.definitions.Answer.{negative}
+-- `examine::fill` meets its contract: what came so far stands in front, and each read that goes on leaves less to fill. Assumes nothing.
+use Rattle.std.proofs.Common.{◌-◌, ◌≤◌, length, take}
+use Rattle.std.specs.Io.KnownBytes.{Consumes}
 use Rattle.examine.proofs.fill.Given as goal
 
-abbrev pub invariant-loop-at : goal.invariant-loop-at
-invariant-loop-at g l =
-    (l.from ≤ l.at) × (l.at ≤ l.to) × (length l.buffer ≡ length l.initial.buffer) × (take l.from l.buffer ≡ take l.from l.initial.buffer)
-    × (negative l.answer ≡ false)
+abbrev pub invariant-loop-filled : goal.invariant-loop-filled
+invariant-loop-filled g l =
+    record {
+      within : l.filled ≤ length l.buffer;
+      given : Consumes (g.R.Read.remaining l.initial.reader) (g.R.Read.remaining l.reader) (take l.filled l.buffer);
+    }
 
-abbrev pub decreases-loop-at : goal.decreases-loop-at
-decreases-loop-at g l = l.to - l.at
+abbrev pub decreases-loop-filled : goal.decreases-loop-filled
+decreases-loop-filled g l = length l.initial.buffer - l.filled

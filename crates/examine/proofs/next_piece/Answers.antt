@@ -1,42 +1,26 @@
 -- `examine::next_piece` meets its contract: no piece has more than what its length asks for, and a shorter one is the last. Assumes nothing.
-use Rattle.std.proofs.Common.{sym, ◌∙◌, rules}
-use Rattle.examine.proofs.Answer.{negative_more}
-use Rattle.examine.proofs.Buffer.{piece_begun, piece_ends, piece_last, piece_whole}
+use Rattle.std.proofs.Common.{rules}
+use Rattle.examine.proofs.Buffer.{begun_within, piece_within, piece_given, piece_short}
+use Rattle.examine.proofs.Known.{broken_given}
 use Rattle.examine.proofs.next_piece.Goals as goal
 
-pub returns-then-head-clause-piece : goal.returns-then-head-clause-piece
-returns-then-head-clause-piece g c =
-    let head = c.fill-head.ensures.filled in (
-      search rules,
-      search rules,
-      piece_begun _ _ _ c.wanted-first.ensures.0 head.0,
-      head.3,
-      λ _. negative_more c.fill-head.result.answer (sym head.3 ∙ c.if-head.true),
-    )
+pub returns-then-head-first-clause-within : goal.returns-then-head-first-clause-within
+returns-then-head-first-clause-within g c = begun_within _ _ _ c.wanted-first.ensures c.if-head-first.true
 
-pub returns-then-head-first-clause-piece : goal.returns-then-head-first-clause-piece
-returns-then-head-first-clause-piece g c =
-    let head = c.fill-head.ensures.filled in
-    (search rules, search rules, piece_begun _ _ _ c.wanted-first.ensures.0 head.0, head.3, λ _. head.4 c.if-head-first.true)
+pub returns-in_err-tail-clause-broken : goal.returns-in_err-tail-clause-broken
+returns-in_err-tail-clause-broken g c = broken_given _ _ _ _ _ c.in_ok-head.ensures.given c.in_err-tail.ensures.broken
 
-pub returns-then-all-first-clause-piece : goal.returns-then-all-first-clause-piece
-returns-then-all-first-clause-piece g c =
-    let head = c.fill-head.ensures.filled in (
-      search rules,
-      search rules,
-      piece_begun _ _ _ c.wanted-first.ensures.0 head.0,
-      head.3,
-      λ h. absurd (piece_whole _ _ _ _ c.wanted-all.ensures.0 (search rules) c.if-all-first.true h),
-    )
+pub returns-clause-within : goal.returns-clause-within
+returns-clause-within g c =
+    piece_within c.fill.new.buffer c.fill-2.new.buffer _ _ c.in_ok-tail.tail _ (search rules) (search rules) _ c.wanted-first.ensures c.wanted-all.ensures
+    (search rules)
 
-pub returns-clause-piece : goal.returns-clause-piece
-returns-clause-piece g c =
-    let tail = c.fill.ensures.filled in
-    let first = c.wanted-first.ensures.0 in
-    let all = c.wanted-all.ensures.0 in (
-      search rules,
-      search rules,
-      piece_ends _ _ _ _ _ first all tail.2 (search rules) tail.0,
-      tail.3,
-      λ h. tail.4 (piece_last _ _ _ _ _ first all tail.2 (search rules) (search rules) h),
-    )
+pub returns-clause-given : goal.returns-clause-given
+returns-clause-given g c =
+    piece_given c.fill.new.buffer c.fill-2.new.buffer _ _ c.in_ok-tail.tail _ (search rules) (search rules) _ _ _ _ c.if-head-first.false
+    c.in_ok-head.ensures.given c.in_ok-tail.ensures.given
+
+pub returns-clause-ended : goal.returns-clause-ended
+returns-clause-ended g c = λ h. c.in_ok-tail.ensures.ended
+    (piece_short c.fill.new.buffer c.fill-2.new.buffer _ _ c.in_ok-tail.tail _ (search rules) (search rules) _ c.wanted-first.ensures c.wanted-all.ensures
+    (search rules) h)

@@ -1,8 +1,10 @@
--- `examine::render` meets its contract: no report is longer than the buffer. Assumes nothing.
-use native.Mathlib.Omega.{arith}
-use Rattle.report.proofs.Lengths.{text_fits}
-use Rattle.report.proofs.Writing.{text_written}
+-- `examine::render` meets its contract: every report fits into the buffer, and stands at its beginning. Assumes nothing.
+use Rattle.std.proofs.Common.{rules}
+use Rattle.examine.proofs.Report.{report_taken, report_stands}
 use Rattle.examine.proofs.render.Goals as goal
 
+pub unwrap-n-requires : goal.unwrap-n-requires
+unwrap-n-requires c = report_taken c.args.run c.args.out.now (search rules) _ c.report.ensures.taken
+
 pub returns : goal.returns
-returns c = text_written c.args.run c.args.out.now _ _ (let f = text_fits c.args.run in let p = c.requires in omega arith) c.report.ensures
+returns c = report_stands c.args.run c.args.out.now (search rules) _ c.report.ensures.taken _ _ c.report.ensures.written c.unwrap-n.ensures
