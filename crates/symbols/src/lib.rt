@@ -53,8 +53,8 @@ fn symbol<const E: u8>(a: u8, b: u8, c: u8, d: u8, l: u8) -> u8
     turned(w + x + y + z, l)
 }
 
-// Every fourth symbol of row R of four rows, from symbol E on, from the rows' bytes: what number the first has goes round by four. One for each E and R, so that
-// all shifts are by literals.
+// Every fourth symbol of row R of four rows, from symbol E on, from the rows' bytes: what number the first has goes round by four. One for each E and R,
+// so that all shifts are by literals.
 fn row_quarter<const E: u8, const R: u8>(rows: &[u8; 256]) -> [u8; 16]
     requires { (E < 4) × (R < 4) }
     ensures { result ≡ tabulate 16 (λ i. quarter_at rows.now E (16 * R + i)) }

@@ -1,5 +1,5 @@
--- The rules of the decoder's tables: what each entry is, in terms of the code. `Locator` promises them to `decoder` alone; nothing that a host or an examiner is
--- told rests on them.
+-- The rules of the decoder's tables: what each entry is, in terms of the code. `Locator` promises them to `decoder` alone; nothing that a host or an examiner
+-- is told rests on them.
 -- Assumes nothing.
 use Rattle.std.specs.Prelude.{◌≡◌, cond, List, ℕ, ◌+◌, ◌*◌, ◌-◌, ◌/◌, ◌%◌, ◌^◌, ◌<◌, ◌≤◌, ltb, min, max, get_or}
 use Rattle.std.specs.Int.Bits.{bit_xor}
