@@ -4,7 +4,7 @@
 ghost use Rattle.std.specs.Prelude.{◌≡◌, ◌+◌, ◌^◌, ◌<◌, ◌≤◌, None, Some, Err, Ok, length, count_by, if◌then◌else◌, ◌==◌, nat_lt};
 ghost use Rattle.refusal.specs.definitions.Refusal.{answer_of};
 ghost use Rattle.account.specs.definitions.Account.{ahead, by_number, tallies_of, total, added, opened, late, grown, words_over};
-ghost use Rattle.account.specs.definitions.Account.{over, right_total, frame_entered, loss_entered, measured, verdict, verdict_number};
+ghost use Rattle.account.specs.definitions.Account.{over, right_total, entry_in, frame_entered, loss_entered, measured, verdict, verdict_number};
 
 use refusal::Refusal;
 
@@ -194,10 +194,10 @@ impl Account {
         })
     }
 
-    // A frame with its tallies. Refused, and nothing changed: late, a limit is passed, the tallies are not of the words due to its number.
+    // The account with a frame and its tallies entered. Refused: late, a limit is passed, the tallies are not of the words due to its number.
     #[tactic(auto, unfolding(crate::specs::definitions::Account::frame_entered))]
-    pub fn enter(&mut self, got: u32, t: Tallies) -> Result<(), Refusal>
-        ensures { record { refusal = answer_of result; account = self.new } ≡ frame_entered self.old got t }
+    fn with_frame(self, got: u32, t: Tallies) -> Result<Account, Refusal>
+        ensures { entry_in self result ≡ frame_entered self got t }
     {
         let gap = self.gap(got)?;
         let grown = self.grown(got, 1, gap, t).ok_or(Refusal::Limit)?;
@@ -205,19 +205,32 @@ impl Account {
         if t.total() != u128::from(due) {
             return Err(Refusal::Tallies);
         }
-        *self = grown;
+        Ok(grown)
+    }
+
+    // The account with a loss entered, a frame without lock: it and the frames before it are missing. Refused: late, a limit is passed.
+    #[tactic(auto, unfolding(crate::specs::definitions::Account::loss_entered))]
+    fn with_loss(self, got: u32) -> Result<Account, Refusal>
+        ensures { entry_in self result ≡ loss_entered self got }
+    {
+        let gap = self.gap(got)?;
+        self.grown(got, 0, gap + 1, Tallies::NONE)
+            .ok_or(Refusal::Limit)
+    }
+
+    // A frame entered in place. Refused, and nothing changed: late, a limit is passed, the tallies are not of the words due to its number.
+    pub fn enter(&mut self, got: u32, t: Tallies) -> Result<(), Refusal>
+        ensures { record { refusal = answer_of result; account = self.new } ≡ frame_entered self.old got t }
+    {
+        *self = self.with_frame(got, t)?;
         Ok(())
     }
 
-    // A loss, a frame without lock: it and the frames before it are missing. Refused, and nothing changed: late, a limit is passed.
-    #[tactic(auto, unfolding(crate::specs::definitions::Account::loss_entered))]
+    // A loss entered in place. Refused, and nothing changed: late, a limit is passed.
     pub fn lose(&mut self, got: u32) -> Result<(), Refusal>
         ensures { record { refusal = answer_of result; account = self.new } ≡ loss_entered self.old got }
     {
-        let gap = self.gap(got)?;
-        *self = self
-            .grown(got, 0, gap + 1, Tallies::NONE)
-            .ok_or(Refusal::Limit)?;
+        *self = self.with_loss(got)?;
         Ok(())
     }
 

@@ -1,6 +1,8 @@
 -- The account of a run and its verdict (01, account and verdict; refusals 10, 11, 12; 02, request 02: fill is no measurement).
 -- Assumes nothing.
-use Rattle.std.specs.Prelude.{ℕ, ◌+◌, ◌-◌, ◌*◌, ◌%◌, ◌^◌, Bool, true, false, cond, not, ◌&&◌, ◌||◌, List, ◌==◌, nat_le, nat_lt, slice_index}
+use Rattle.std.specs.Prelude.{ℕ, ◌+◌, ◌-◌, ◌*◌, ◌%◌, ◌^◌, Bool, true, false, cond, not, ◌&&◌, ◌||◌, List, ◌==◌, nat_le, nat_lt, slice_index, Result, Ok, Err}
+use Rattle.refusal.specs.declared.Refusal.{Refusal}
+use Rattle.refusal.specs.definitions.Refusal.{number_of}
 use Rattle.bits.specs.definitions.Bits.{count}
 use Rattle.account.specs.declared.Tallies.{Tallies}
 use Rattle.account.specs.declared.Account.{Account}
@@ -99,6 +101,11 @@ with_loss a got = grown a got 0 (ahead got a.expected + 1) no_words
 pub record Entry : Type 0 where
   pub refusal : ℕ
   pub account : Account
+
+-- what a result says of an entry in an account: the account after it; or the refusal's number, and the account as it was
+abbrev pub entry_in : Account → Result Account Refusal → Entry
+entry_in a (Ok b) = record { refusal = 0; account = b }
+entry_in a (Err refusal) = record { refusal = number_of refusal; account = a }
 
 -- an answer: the new account where nothing is refused, else the old one
 abbrev pub answer : ℕ → Account → Account → Entry
