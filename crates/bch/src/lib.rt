@@ -69,17 +69,20 @@ fn fold_words<F: Fn(Word) -> u64>(words: &[u64; 768], out: &mut [u64; 384], fold
 
 // ---- the parity, by bytes
 
+static BYTE_REMAINDERS: [u16; 256] = tables::BYTE_REMAINDERS;
+
 // The remainders of bytes times x^16.
-#[derive(Drop)]
+#[derive(Clone, Copy)]
 struct ByteRemainders {
-    entries: [u16; 256],
-    ghost is: { IsByteRemainders entries },
+    entries: &'static [u16; 256],
+    ghost is: { IsByteRemainders entries.now },
 }
 
 impl ByteRemainders {
-    fn built() -> ByteRemainders {
+    // The table is read where it stands: nothing is copied.
+    fn new() -> ByteRemainders {
         ByteRemainders {
-            entries: tables::BYTE_REMAINDERS,
+            entries: &BYTE_REMAINDERS,
         }
     }
 
@@ -119,7 +122,7 @@ pub fn parity(word: Word) -> u64
         lo: word.lo / 65536 * 65536,
         ..word
     };
-    ByteRemainders::built().remainder(folded(information))
+    ByteRemainders::new().remainder(folded(information))
 }
 
 // Each word of a frame gets the parity of its information: a word and its remainder make a code word, whatever parity bits stood there.
@@ -138,7 +141,7 @@ fn add_parity(table: &ByteRemainders, folds: &[u64; 384], words: &mut [u64; 768]
 pub fn encode_frame(words: &mut [u64; 768])
     ensures { words.new ≡ coded_frame words.old }
 {
-    let table = ByteRemainders::built();
+    let table = ByteRemainders::new();
     let mut folds = [0; 384];
     fold_words(words, &mut folds, folded);
     add_parity(&table, &folds, words);
