@@ -8,6 +8,10 @@ use native.Mathlib.Omega.{arith}
 use lib.ListN.{length, get_or, take, drop}
 use borrow.Author.Tests.{lt-ltb, le-ltb, le-leb, lt-leb, eq-eqb, ne_eqb}
 use lib.Seq.{get_or-drop, get_or-take}
+use mathlib.Core.Bool.{Bool, true, false}
+use lib.Dec.{ltb}
+use Rattle.std.specs.Bool.{if◌then◌else◌}
+use Rattle.std.proofs.Common.{Option, Some, None}
 use Rattle.bits.proofs.Value.{value_cong}
 use Rattle.capture.specs.definitions.Read.{End, Refused, Order, Frame}
 use Rattle.capture.specs.definitions.Capture.{layout, big_endian_at, refusal_at, refused_or, order_at, frame_at, read_at, symbols_at, wanted}
@@ -22,6 +26,15 @@ module _ (s : List ℕ) (i : ℕ) where
 
   pub big_endian_first : (bytes : ℕ) → 4 ≤ bytes → big_endian_at (take bytes (drop i s)) 0 ≡ big_endian_at s i
   big_endian_first bytes h = big_endian_part bytes 0 h ∙ ap (big_endian_at s) (add-zero i)
+
+  -- of a part from there on, where a number is found
+  pub number_found : (bytes x : ℕ) {found : Option ℕ} → 4 ≤ bytes → found ≡ Some x
+      → found ≡ (if ltb (length (take bytes (drop i s))) 4 then None else Some (big_endian_at (take bytes (drop i s)) 0)) → x ≡ big_endian_at s i
+  number_found bytes x h e f = let first = big_endian_first bytes h in go (ltb (length (take bytes (drop i s))) 4) (sym e ∙ f) ∙ first
+    where
+      go : (short : Bool) → Some x ≡ (if short then None else Some (big_endian_at (take bytes (drop i s)) 0)) → x ≡ big_endian_at (take bytes (drop i s)) 0
+      go true e = absurd (let p : ◌≡◌ {A = ℕ} 0 1 = cc in omega arith)
+      go false e = cc
 
   module _ (bytes kind : ℕ) where
     pub refused_short : length s - i < bytes → 6 ≡ refusal_at s i bytes kind

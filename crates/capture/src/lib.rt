@@ -73,23 +73,9 @@ impl Record {
     }
 }
 
-// The number of the four bytes from a place on, big-endian.
+// The number of the first four bytes, big-endian, if so many are there.
 #[tactic(auto, unfolding(crate::specs::definitions::Capture::big_endian_at, bits::specs::definitions::Bits::value))]
-fn big_endian_at(bytes: &[u8], place: usize) -> u32
-    requires { place + 4 ≤ length bytes.now }
-    ensures { result ≡ big_endian_at bytes.now place }
-{
-    u32::from_be_bytes([
-        bytes[place],
-        bytes[place + 1],
-        bytes[place + 2],
-        bytes[place + 3],
-    ])
-}
-
-// A record's length, which comes first, if it is there.
-#[tactic(auto, unfolding(crate::specs::definitions::Capture::big_endian_at, bits::specs::definitions::Bits::value))]
-fn length_of(bytes: &[u8]) -> Option<u32>
+fn number_of(bytes: &[u8]) -> Option<u32>
     ensures { result ≡ (if nat_lt (length bytes.now) 4 then None else Some (big_endian_at bytes.now 0)) }
 {
     bytes.first_chunk().map(|first| u32::from_be_bytes(*first))
@@ -120,9 +106,9 @@ fn order_at(capture: &[u8], place: usize) -> Result<Option<Record>, Refusal>
 {
     let record = record_at::<ORDER_BYTES>(capture, place, ORDER_KIND)?;
     Ok(Some(Record::Order {
-        start: big_endian_at(record, START_AT),
-        asked: big_endian_at(record, ASKED_AT),
-        allowed: big_endian_at(record, ALLOWED_AT),
+        start: number_of(&record[START_AT..]).unwrap(),
+        asked: number_of(&record[ASKED_AT..]).unwrap(),
+        allowed: number_of(&record[ALLOWED_AT..]).unwrap(),
         next: place + ORDER_BYTES,
     }))
 }
@@ -134,7 +120,7 @@ fn frame_at(capture: &[u8], place: usize) -> Result<Option<Record>, Refusal>
 {
     let record = record_at::<FRAME_BYTES>(capture, place, FRAME_KIND)?;
     Ok(Some(Record::Frame {
-        number: big_endian_at(record, NUMBER_AT),
+        number: number_of(&record[NUMBER_AT..]).unwrap(),
         from: place + SYMBOLS_FROM,
         next: place + FRAME_BYTES,
     }))
@@ -148,7 +134,7 @@ pub fn read_at(capture: &[u8], place: usize) -> Result<Option<Record>, Refusal>
     if capture.len() <= place {
         return Ok(None);
     }
-    match length_of(&capture[place..]).ok_or(Refusal::CutShort)? {
+    match number_of(&capture[place..]).ok_or(Refusal::CutShort)? {
         ORDER_LENGTH => order_at(capture, place),
         FRAME_LENGTH => frame_at(capture, place),
         _ => Err(Refusal::Length),
@@ -171,7 +157,7 @@ pub fn symbols_at(capture: &[u8], from: usize) -> &[u8]
 pub fn wanted(piece: &[u8]) -> usize
     ensures { result ≡ wanted piece.now }
 {
-    match length_of(piece) {
+    match number_of(piece) {
         Some(ORDER_LENGTH) => ORDER_BYTES,
         Some(FRAME_LENGTH) => FRAME_BYTES,
         _ => LENGTH_BYTES,
@@ -200,7 +186,7 @@ pub fn read_one(piece: &[u8]) -> Result<Option<Record>, Refusal>
 }
 
 // A reader walks over one lent capture and keeps its place.
-#[derive(Clone, Copy, Debug)]
+#[derive(Clone, Copy, Debug, PartialEq, Eq)]
 pub struct Reader<'a> {
     pub capture: &'a [u8],
     pub place: usize,
