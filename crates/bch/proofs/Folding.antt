@@ -195,11 +195,11 @@ folded_step {P} {i} {words} {folds} w v F l e p = record { fold = below_more at 
     here : at i
     here = (w, e, rw (get_or-set_same folds i v 0 l) p)
 
--- a step that stores the upper number of word i without what stands above the word
-pub trimmed_step : {s₀ s : List ℕ} {i : ℕ} → Rewriting (word_at s₀) 384 s₀ s i → i < 384 → get_or s₀ (2 * i + 1) 0 < 2 ^ 64
+-- the upper number of word i is stored without what stands above the word
+trimmed_word : {s₀ s : List ℕ} (i : ℕ) → Rewriting (word_at s₀) 384 s₀ s i → i < 384 → get_or s₀ (2 * i + 1) 0 < 2 ^ 64
     → Rewriting (word_at s₀) 384 s₀ (set s (2 * i) (get_or s (2 * i) 0 % 2 ^ 62)) (i + 1)
 unfolding word_of
-trimmed_step {s₀} {s} {i} R h l₀ =
+trimmed_word {s₀} {s} i R h l₀ =
     let u : ℕ = get_or s (2 * i) 0 % 2 ^ 62 in
     let lo : ℕ = get_or s (2 * i + 1) 0 in
     let l : lo < 2 ^ 64 = rw (filling_rest (half_of (word_at s₀)) (2 * i + 1) 0 R.numbers (omega arith)) l₀ in
@@ -208,6 +208,14 @@ trimmed_step {s₀} {s} {i} R h l₀ =
     subst (λ (t : List ℕ). Rewriting (word_at s₀) 384 s₀ t (i + 1)) kept
     (row_step (word_at s₀) R u lo h (sym (high u 64 l) ∙ ap (λ (w : ℕ). w / 2 ^ 64) (row_rest (word_at s₀) R))
     (sym (low u 64 l) ∙ ap (λ (w : ℕ). w % 2 ^ 64) (row_rest (word_at s₀) R)))
+
+-- a step of the loop that goes from one upper number to the next
+pub trimmed_step : {s₀ s : List ℕ} {i : ℕ} → i % 2 ≡ 0 → Rewriting (word_at s₀) 384 s₀ s (i / 2) → i < 768 → get_or s₀ (i + 1) 0 < 2 ^ 64
+    → Rewriting (word_at s₀) 384 s₀ (set s i (get_or s i 0 % 2 ^ 62)) ((i + 2) / 2)
+trimmed_step {s₀} {s} {i} even R h l₀ =
+    let e : 2 * (i / 2) ≡ i = omega (arith, even) in
+    let n : i / 2 + 1 ≡ (i + 2) / 2 = omega arith in
+    rw (sym n) (subst (λ (k : ℕ). Rewriting (word_at s₀) 384 s₀ (set s k (get_or s k 0 % 2 ^ 62)) (i / 2 + 1)) e (trimmed_word (i / 2) R (omega arith) (rw e l₀)))
 
 -- a row above whose words nothing stands is the row of its words
 pub row_own : (s : List ℕ) {top : ℕ} → UppersWithin s top → top < 2 ^ 62 → length s ≡ 768 → s ≡ row_of 384 (word_at s)

@@ -197,8 +197,8 @@ fn trim_words(uppers: u64, words: &mut [u64; 768])
     if uppers < bits::TWO_62 {
         return;
     }
-    for i in 0..384 {
-        words[2 * i] %= bits::TWO_62;
+    for i in (0..768).step_by(2) {
+        words[i] %= bits::TWO_62;
     }
 }
 

@@ -1,5 +1,6 @@
--- `bch::trim_words` meets its contract: nothing stands above the words before word i. Assumes nothing.
-use Prim.Native.Nat.{◌+◌, ◌*◌}
+-- `bch::trim_words` meets its contract: nothing stands above the words before number i, which is the upper one of a word. Assumes nothing.
+use mathlib.Core.Path.{◌≡◌, refl}
+use Prim.Native.Nat.{◌+◌, ◌%◌}
 use native.Mathlib.Omega.{arith}
 use borrow.Author.Rules.{rules}
 use Rattle.bits.proofs.Words.{row_start, row_done}
@@ -10,10 +11,14 @@ pub returns-then-uppers-lt-TWO_62 : goal.returns-then-uppers-lt-TWO_62
 returns-then-uppers-lt-TWO_62 c = row_own _ c.requires (omega arith) (search rules)
 
 pub loop-i-init : goal.loop-i-init
-loop-i-init c = row_start _ (search rules)
+loop-i-init c = (refl, row_start _ (search rules))
 
 pub loop-i-preserved : goal.loop-i-preserved
-loop-i-preserved c = trimmed_step c.loop-i.invariant (omega arith) (c.requires.number (2 * c.loop-i.i + 1))
+loop-i-preserved c =
+    let at = c.loop-i in
+    let even : at.i % 2 ≡ 0 = at.invariant.0 in
+    let next : (at.i + 2) % 2 ≡ 0 = omega (arith, even) in
+    (next, trimmed_step even at.invariant.1 (omega arith) (c.requires.number (at.i + 1)))
 
 pub returns : goal.returns
-returns c = row_done _ c.loop-i.invariant (omega arith)
+returns c = row_done _ c.loop-i.invariant.1 (omega arith)
