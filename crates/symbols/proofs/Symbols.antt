@@ -26,7 +26,7 @@ use Rattle.symbols.specs.definitions.Mapping.{lane_of, upper, lower}
 use Rattle.pilots.specs.definitions.Table5.{pilots}
 use Rattle.symbols.specs.definitions.Frame.{carried_bit, payload, symbol_at, frame_of}
 use Rattle.symbols.specs.definitions.Dibits.{dibit_in, swapped, turned, tributary_in}
-use Rattle.symbols.specs.private.Numbers.{lane_in, mapped, dibits_at, quarter_at, byte_of_two}
+use Rattle.symbols.specs.private.Numbers.{lane_in, mapped, dibits_of, dibits_at, quarter_at, byte_of_two}
 
 -- ---- a symbol's number by its remainder
 
@@ -117,12 +117,17 @@ symbol_sum l a b c d hl ha hb hc hd =
     )
 
 -- the same from what the code puts at each tributary
-pub symbol_values : (l e a b c d : ℕ) {s t u v w x y z : ℕ} → l < 4 → e < 4
+pub symbol_values : (l e : ℕ) (f : List ℕ) {s t u v w x y z : ℕ} → l < 4 → e < 4
     → s ≡ tributary_in l 0 → t ≡ tributary_in l 1 → u ≡ tributary_in l 2 → v ≡ tributary_in l 3
-    → w ≡ dibit_in (e % 4) a * 4 ^ (3 - s % 4) → x ≡ dibit_in (e % 4) b * 4 ^ (3 - t % 4)
-    → y ≡ dibit_in (e % 4) c * 4 ^ (3 - u % 4) → z ≡ dibit_in (e % 4) d * 4 ^ (3 - v % 4)
-    → (turned l (w + x + y + z) ≡ mapped l (dibit_in e a * 64 + dibit_in e b * 16 + dibit_in e c * 4 + dibit_in e d)) × (w + x + y + z < 256)
-symbol_values l e a b c d {w = w} {x} {y} {z} hl he es et eu ev ew ex ey ez =
+    → w ≡ dibit_in (e % 4) (get_or f 0 0) * 4 ^ (3 - s % 4) → x ≡ dibit_in (e % 4) (get_or f 1 0) * 4 ^ (3 - t % 4)
+    → y ≡ dibit_in (e % 4) (get_or f 2 0) * 4 ^ (3 - u % 4) → z ≡ dibit_in (e % 4) (get_or f 3 0) * 4 ^ (3 - v % 4)
+    → (turned l (w + x + y + z) ≡ mapped l (dibits_of f e)) × (w + x + y + z < 256)
+unfolding dibits_of
+symbol_values l e f {w = w} {x} {y} {z} hl he es et eu ev ew ex ey ez =
+    let a = get_or f 0 0 in
+    let b = get_or f 1 0 in
+    let c = get_or f 2 0 in
+    let d = get_or f 3 0 in
     let p : w + x + y + z ≡ at_tributaries l (dibit_in e a) (dibit_in e b) (dibit_in e c) (dibit_in e d) =
     λ k. put_at a e l 0 he es ew k + put_at b e l 1 he et ex k + put_at c e l 2 he eu ey k + put_at d e l 3 he ev ez k in
     let h = symbol_sum l (dibit_in e a) (dibit_in e b) (dibit_in e c) (dibit_in e d) hl (mod-lt _ (lit< tt)) (mod-lt _ (lit< tt)) (mod-lt _ (lit< tt))
@@ -200,7 +205,7 @@ counted_row g k e = fours (3 * g + 3 + e) (63 * g + 3 + (4 * k + e)) (15 * g + k
 -- symbol 4 k + e of row g, the pilot's place being its first
 row_symbol : (s : List ℕ) (g k e : ℕ) → g < 96 → k < 16 → e < 4
     → quarter_at (word_bytes 384 s) e (16 * g + k) ≡ symbol_from 64 (63 * g + 3) (λ r. word_at s (4 * g + r)) (4 * k + e)
-unfolding quarter_at dibits_at
+unfolding quarter_at dibits_at dibits_of
 row_symbol s g k e hg hk he =
     let d : (16 * g + k) / 16 ≡ g = omega arith in
     let m : (16 * g + k) % 16 ≡ k = omega arith in
@@ -371,7 +376,7 @@ in_chunk n k s g i hg hi e =
 -- the symbols of four rows are those of the frame, where each row's number goes round by four
 four_rows : (b : List ℕ) (e q k : ℕ) {parts : List (List ℕ)} (j : ℕ) → q < k → j < 64 → parts ≡ first_chunks 256 k b
     → quarter_at (get_or parts q []) e j ≡ quarter_at b e (64 * q + j)
-unfolding quarter_at dibits_at
+unfolding quarter_at dibits_at dibits_of
 four_rows b e q k {parts} j hq hj ep =
     let i = 64 * q + j in
     let d : i / 16 ≡ 4 * q + j / 16 = omega arith in

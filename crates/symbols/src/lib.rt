@@ -9,7 +9,7 @@ ghost use Rattle.bits.specs.definitions.Bits.{tabulate};
 ghost use Rattle.pilots.specs.definitions.Table5.{pilots};
 ghost use Rattle.symbols.specs.definitions.Frame.{frame_of};
 ghost use Rattle.symbols.specs.definitions.Dibits.{dibit_in, swapped, turned, tributary_in};
-ghost use Rattle.symbols.specs.private.Numbers.{mapped, dibits_at, quarter_at, byte_of_two};
+ghost use Rattle.symbols.specs.private.Numbers.{mapped, dibits_of, quarter_at, byte_of_two};
 
 // Each dibit of a byte with its two bits swapped.
 fn swapped(x: u8) -> u8
@@ -42,10 +42,11 @@ pub fn tributary(l: u8, r: u8) -> u8
 }
 
 // Symbol l from dibit E of a byte of each of its four lanes.
-fn symbol<const E: u8>(a: u8, b: u8, c: u8, d: u8, l: u8) -> u8
+fn symbol<const E: u8>(bytes: [u8; 4], l: u8) -> u8
     requires { (E < 4) × (l < 4) }
-    ensures { result ≡ mapped l (dibit_in E a * 64 + dibit_in E b * 16 + dibit_in E c * 4 + dibit_in E d) }
+    ensures { result ≡ mapped l (dibits_of bytes E) }
 {
+    let [a, b, c, d] = bytes;
     let w = put_dibit(a, E, tributary(l, 0));
     let x = put_dibit(b, E, tributary(l, 1));
     let y = put_dibit(c, E, tributary(l, 2));
@@ -64,7 +65,7 @@ fn row_quarter<const E: u8, const R: u8>(rows: &[u8; 256]) -> [u8; 16]
     let mut row = [0; 16];
     for (i, place) in row.iter_mut().enumerate() {
         let m = at + i;
-        *place = symbol::<E>(rows[m], rows[m + 16], rows[m + 32], rows[m + 48], l);
+        *place = symbol::<E>([rows[m], rows[m + 16], rows[m + 32], rows[m + 48]], l);
     }
     row
 }

@@ -1,20 +1,18 @@
 -- `symbols::symbol` meets its contract: `symbol_sum`. Assumes nothing.
 use mathlib.Core.Path.{◌≡◌, ◌∙◌}
-use Prim.Native.Nat.{◌+◌, ◌*◌, ◌<◌}
+use Prim.Native.Nat.{◌+◌, ◌<◌}
 use native.Mathlib.Omega.{arith}
-use Rattle.symbols.specs.definitions.Dibits.{dibit_in, turned}
-use Rattle.symbols.specs.private.Numbers.{mapped}
+use Rattle.symbols.specs.definitions.Dibits.{turned}
+use Rattle.symbols.specs.private.Numbers.{mapped, dibits_of}
 use Rattle.symbols.proofs.Symbols.{symbol_values}
 use Rattle.symbols.proofs.symbol.Goals.{After-put_dibit-z}
 use Rattle.symbols.proofs.symbol.Goals as goal
 
 values : (g : _) (c : After-put_dibit-z g)
-    → let a = c.args in
-    let E = g.row.E in
-    let v = c.put_dibit-w.result + c.put_dibit-x.result + c.put_dibit-y.result + c.put_dibit-z.result in
-    (turned a.l v ≡ mapped a.l (dibit_in E a.a * 64 + dibit_in E a.b * 16 + dibit_in E a.c * 4 + dibit_in E a.d)) × (v < 256)
+    → let v = c.put_dibit-w.result + c.put_dibit-x.result + c.put_dibit-y.result + c.put_dibit-z.result in
+    (turned c.args.l v ≡ mapped c.args.l (dibits_of c.args.bytes g.row.E)) × (v < 256)
 values g c =
-    symbol_values c.args.l g.row.E _ _ _ _ c.requires.1 c.requires.0 c.tributary.ensures c.tributary-2.ensures c.tributary-3.ensures
+    symbol_values c.args.l g.row.E c.args.bytes c.requires.1 c.requires.0 c.tributary.ensures c.tributary-2.ensures c.tributary-3.ensures
     c.tributary-4.ensures c.put_dibit-w.ensures c.put_dibit-x.ensures c.put_dibit-y.ensures c.put_dibit-z.ensures
 
 pub overflow_add-w : goal.overflow_add-w

@@ -1,6 +1,6 @@
 -- What the mapping's own functions promise one another about symbols and the bytes of words. No promise to a caller rests on a definition here.
 -- Assumes nothing.
-use Rattle.std.specs.Prelude.{cond, List, ℕ, ◌+◌, ◌*◌, ◌/◌, ◌%◌, ◌^◌, ltb, get_or}
+use Rattle.std.specs.Prelude.{cond, List, [], ◌∷◌, ℕ, ◌+◌, ◌*◌, ◌/◌, ◌%◌, ◌^◌, ltb, get_or}
 use Rattle.bits.specs.definitions.Bits.{number, bit_of}
 use Rattle.symbols.specs.definitions.Dibits.{dibit_in}
 
@@ -12,10 +12,13 @@ lane_in l t = (2 * l + l / 2 % 2 + t) % 4
 unfoldable pub mapped : ℕ → ℕ → ℕ
 mapped l y = number 8 (λ i. bit_of 8 y (2 * lane_in l (i / 2) + (i + l) % 2))
 
--- dibit e of each of four bytes, sixteen apart, from byte m on, side by side
+-- dibit e of each of four bytes, side by side
+unfoldable pub dibits_of : List ℕ → ℕ → ℕ
+dibits_of b e = dibit_in e (get_or b 0 0) * 64 + dibit_in e (get_or b 1 0) * 16 + dibit_in e (get_or b 2 0) * 4 + dibit_in e (get_or b 3 0)
+
+-- of four bytes, sixteen apart, from byte m on
 unfoldable pub dibits_at : List ℕ → ℕ → ℕ → ℕ
-dibits_at b e m = dibit_in e (get_or b m 0) * 64 + dibit_in e (get_or b (m + 16) 0) * 16 + dibit_in e (get_or b (m + 32) 0) * 4
-    + dibit_in e (get_or b (m + 48) 0)
+dibits_at b e m = dibits_of (get_or b m 0 ∷ get_or b (m + 16) 0 ∷ get_or b (m + 32) 0 ∷ get_or b (m + 48) 0 ∷ []) e
 
 -- of every fourth symbol of a frame from symbol e on, number j, which stands in row j / 16: from the bytes of the words, 64 a row
 unfoldable pub quarter_at : List ℕ → ℕ → ℕ → ℕ
