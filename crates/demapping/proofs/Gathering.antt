@@ -3,13 +3,15 @@
 -- Assumes nothing.
 use mathlib.Core.Path.{◌≡◌, refl, sym, ap, ap₂, ◌∙◌, subst}
 use mathlib.Core.Bool.{Bool, cond}
-use mathlib.Core.List.{List, []}
+use mathlib.Core.List.{List, [], ◌∷◌}
 use Prim.Native.Nat.{ℕ, zero, suc, ◌+◌, ◌-◌, ◌*◌, ◌/◌, ◌%◌, ◌^◌, ◌<◌, ◌≤◌, zero-le}
 use native.Mathlib.Nat.{add-zero}
 use native.Mathlib.Omega.{arith}
-use lib.Dec.{T, eqb, eqb→eq}
+use lib.Dec.{T, eqb, eqb→eq, lit<}
 use lib.ListN.{length, get_or, set, take, drop}
-use Rattle.std.specs.Int.{w16, to_le_bytes}
+use Rattle.std.specs.Int.{w16, to_le_bytes, from_le_bytes, from_be_bytes}
+use Rattle.std.proofs.Common.{w64}
+use Rattle.bits.proofs.Joins.{load_eight, loaded_is}
 use Rattle.std.specs.Simd.{first_chunks}
 use lib.Seq.{get_or-drop, get_or-take}
 use borrow.Author.Tests.{eq-eqb, lt-ltb, le-ltb}
@@ -93,22 +95,23 @@ gathered_same l m r a b c d e =
 
 -- of symbols that are turned
 gathered_is : (l q a b c d : ℕ) → a < 256 → b < 256 → c < 256 → d < 256
-    → gathered_turned l q (turned l a) (turned (l + 1) b) (turned (l + 2) c) (turned (l + 3) d) ≡ gathered l q a b c d
+    → gathered_turned l q (turned l a ∷ turned (l + 1) b ∷ turned (l + 2) c ∷ turned (l + 3) d ∷ []) ≡ gathered l q a b c d
 unfolding gathered gathered_turned
 gathered_is l q a b c d ha hb hc hd =
     λ k. turned_is l q a ha k * 64 + turned_is (l + 1) q b hb k * 16 + turned_is (l + 2) q c hc k * 4 + turned_is (l + 3) q d hd k
 
 -- from what the code takes out, and puts at each place
-pub gathered_sum : (l q a b c d : ℕ) {s t u v w x y z : ℕ}
+pub gathered_sum : (l q : ℕ) (f : List ℕ) {s t u v w x y z : ℕ}
     → s ≡ tributary_in l q → t ≡ tributary_in (l + 1) q → u ≡ tributary_in (l + 2) q → v ≡ tributary_in (l + 3) q
-    → w ≡ dibit_in (s % 4) a * 64 → x ≡ dibit_in (t % 4) b * 16 → y ≡ dibit_in (u % 4) c * 4 → z ≡ dibit_in (v % 4) d * 1
-    → (w + x + y + z ≡ gathered_turned l q a b c d) × (w + x + y + z < 256)
+    → w ≡ dibit_in (s % 4) (get_or f 0 0) * 64 → x ≡ dibit_in (t % 4) (get_or f 1 0) * 16 → y ≡ dibit_in (u % 4) (get_or f 2 0) * 4
+    → z ≡ dibit_in (v % 4) (get_or f 3 0) * 1
+    → (w + x + y + z ≡ gathered_turned l q f) × (w + x + y + z < 256)
 unfolding gathered_turned
-gathered_sum l q a b c d {s} {t} {u} {v} es et eu ev ew ex ey ez =
-    let n = taken l s a es in
-    let o = taken (l + 1) t b et in
-    let p = taken (l + 2) u c eu in
-    let r = taken (l + 3) v d ev in
+gathered_sum l q f {s} {t} {u} {v} es et eu ev ew ex ey ez =
+    let n = taken l s (get_or f 0 0) es in
+    let o = taken (l + 1) t (get_or f 1 0) et in
+    let p = taken (l + 2) u (get_or f 2 0) eu in
+    let r = taken (l + 3) v (get_or f 3 0) ev in
     (omega arith, omega arith)
   where
     taken : (m t x : ℕ) → t ≡ tributary_in m q → dibit_in (t % 4) x ≡ dibit_in (tributary_in m q) x
@@ -150,19 +153,20 @@ module _ (s : List ℕ) where
       → let m = at + i in
       a ≡ turned l (get_or s m 0) → b ≡ turned (l + 1) (get_or s (m + 512) 0)
       → c ≡ turned (l + 2) (get_or s (m + 256) 0) → d ≡ turned (l + 3) (get_or s (m + 768) 0)
-      → w ≡ gathered_turned l 0 a b c d → x ≡ gathered_turned l 1 a b c d → y ≡ gathered_turned l 2 a b c d → z ≡ gathered_turned l 3 a b c d
+      → let four = a ∷ b ∷ c ∷ d ∷ [] in
+      w ≡ gathered_turned l 0 four → x ≡ gathered_turned l 1 four → y ≡ gathered_turned l 2 four → z ≡ gathered_turned l 3 four
       → FourParts (λ j. gathered_from s l (j / 16) (at + j % 16)) 16 (set (set (set (set out i w) (16 + i) x) (32 + i) y) (48 + i) z) (i + 1)
   unfolding gathered_from
   words_step l at i {a} {b} {c} {d} B S h ea eb ec ed ew ex ey ez =
       parts_step _ S h (refl, refl, refl) (ew ∙ word 0 i (omega arith)) (ex ∙ word 1 (16 + i) (omega arith)) (ey ∙ word 2 (32 + i) (omega arith))
       (ez ∙ word 3 (48 + i) (omega arith))
     where
-      word : (q j : ℕ) → j ≡ 16 * q + i → gathered_turned l q a b c d ≡ gathered_from s l (j / 16) (at + j % 16)
+      word : (q j : ℕ) → j ≡ 16 * q + i → gathered_turned l q (a ∷ b ∷ c ∷ d ∷ []) ≡ gathered_from s l (j / 16) (at + j % 16)
       word q j e =
           let m = at + i in
           let n : q ≡ j / 16 = omega arith in
           let o : i ≡ j % 16 = omega arith in
-          (λ k. gathered_turned l q (ea k) (eb k) (ec k) (ed k))
+          (λ k. gathered_turned l q (ea k ∷ eb k ∷ ec k ∷ ed k ∷ []))
           ∙ gathered_is l q _ _ _ _ (B.byte m) (B.byte (m + 512)) (B.byte (m + 256)) (B.byte (m + 768))
           ∙ λ k. gathered_from s l (n k) (at + o k)
 
@@ -214,6 +218,13 @@ pub byte_is : (n k : ℕ) {b : List ℕ} → k < 2 → b ≡ to_le_bytes w16 n �
 byte_is n zero h e = ap (λ (b : List ℕ). get_or b 0 0) e ∙ omega arith
 byte_is n (suc zero) h e = ap (λ (b : List ℕ). get_or b 1 0) e
 byte_is n (suc (suc k)) h e = absurd (omega arith)
+
+-- two bytes of a list as one number
+pub pair_is : (s : List ℕ) (i k : ℕ) {parts : List (List ℕ)} → i < k → parts ≡ first_chunks 2 k s
+    → from_le_bytes w16 (get_or parts i []) ≡ get_or s (2 * i) 0 + get_or s (2 * i + 1) 0 * 256
+pair_is s i k {parts} h e =
+    let first : 2 * i + 0 ≡ 2 * i = omega arith in
+    λ x. (in_chunk 2 k s i 0 h (lit< tt) e ∙ ap (λ (n : ℕ). get_or s n 0) first) x + in_chunk 2 k s i 1 h (lit< tt) e x * 256
 
 -- two bytes in a number
 module _ (s w : List ℕ) (n : ℕ) (B : AllBytes s) (e : w ≡ tabulate n (λ i. get_or s (2 * i) 0 + get_or s (2 * i + 1) 0 * 256)) where
@@ -453,6 +464,20 @@ module _ (f p : List ℕ) (e : p ≡ tabulate 6144 (gathered_at f)) where
       value_cong 2 126 _ _ (λ q l.
       ap (λ (w : ℕ). bit_of 126 w (place (i % 32) q)) (word_field row i h er ∙ field_is p (128 * i + 2) 126 _ (λ q c. word_bit i q h c))
       ∙ bit_number 126 (placed_bit f (i / 32) (i % 32)) (λ r _. bit_at_lt f _) (place (i % 32) q) (place_lt (i % 32) q l)))
+
+-- eight bytes of a list as one number
+pub number_is : (s : List ℕ) (j k : ℕ) {parts : List (List ℕ)} → AllBytes s → j < k → 8 * k ≤ length s → parts ≡ first_chunks 8 k s
+    → from_be_bytes w64 (get_or parts j []) ≡ field_at s (64 * j) 64
+number_is s j k {parts} B h l e =
+    let first : 8 * j + 0 ≡ 8 * j = omega arith in
+    let place : 8 * (8 * j) ≡ 64 * j = omega arith in
+    (λ x. from_be_bytes w64
+    ((byte 0 (lit< tt) ∙ ap (λ (n : ℕ). get_or s n 0) first) x ∷ byte 1 (lit< tt) x ∷ byte 2 (lit< tt) x ∷ byte 3 (lit< tt) x ∷ byte 4 (lit< tt) x
+    ∷ byte 5 (lit< tt) x ∷ byte 6 (lit< tt) x ∷ byte 7 (lit< tt) x ∷ []))
+    ∙ load_eight s (8 * j) B (omega arith) ∙ loaded_is s (8 * j) (omega arith) ∙ ap (λ (n : ℕ). field_at s n 64) place
+  where
+    byte : (i : ℕ) → i < 8 → get_or (get_or parts j []) i 0 ≡ get_or s (8 * j + i) 0
+    byte i hi = in_chunk 8 k s j i h hi e
 
 -- a call whose frame has the right length reads its words
 pub frame_read : {f w w' : List ℕ} {r : Bool} → ReadsFrame f w r w' → length f ≡ 6144 → w' ≡ words_of f

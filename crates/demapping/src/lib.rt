@@ -13,10 +13,11 @@ ghost use Rattle.demapping.specs.private.Gathering.{gathered_turned, parted_at, 
 use refusal::Refusal;
 
 // A byte of the word of lane Q from four symbols that are turned, of which the first is symbol L.
-fn lane_byte<const L: u8, const Q: u8>(a: u8, b: u8, c: u8, d: u8) -> u8
+fn lane_byte<const L: u8, const Q: u8>(four: [u8; 4]) -> u8
     requires { (L < 4) × (Q < 4) }
-    ensures { result ≡ gathered_turned L Q a b c d }
+    ensures { result ≡ gathered_turned L Q four }
 {
+    let [a, b, c, d] = four;
     let w = symbols::put_dibit(a, symbols::tributary(L, Q), 0);
     let x = symbols::put_dibit(b, symbols::tributary(L + 1, Q), 1);
     let y = symbols::put_dibit(c, symbols::tributary(L + 2, Q), 2);
@@ -32,14 +33,16 @@ fn row_words<const L: u8>(s: &[u8; 1024], at: usize, out: &mut [u8])
 {
     for i in 0..16 {
         let m = at + i;
-        let a = symbols::turned(s[m], L);
-        let b = symbols::turned(s[m + 512], L + 1);
-        let c = symbols::turned(s[m + 256], L + 2);
-        let d = symbols::turned(s[m + 768], L + 3);
-        out[i] = lane_byte::<L, 0>(a, b, c, d);
-        out[16 + i] = lane_byte::<L, 1>(a, b, c, d);
-        out[32 + i] = lane_byte::<L, 2>(a, b, c, d);
-        out[48 + i] = lane_byte::<L, 3>(a, b, c, d);
+        let four = [
+            symbols::turned(s[m], L),
+            symbols::turned(s[m + 512], L + 1),
+            symbols::turned(s[m + 256], L + 2),
+            symbols::turned(s[m + 768], L + 3),
+        ];
+        out[i] = lane_byte::<L, 0>(four);
+        out[16 + i] = lane_byte::<L, 1>(four);
+        out[32 + i] = lane_byte::<L, 2>(four);
+        out[48 + i] = lane_byte::<L, 3>(four);
     }
 }
 
@@ -64,8 +67,9 @@ fn pairs(s: &[u8], out: &mut [u16])
     ensures { out.new
         ≡ tabulate (length out.old) (λ i. get_or s.now (2 * i) 0 + get_or s.now (2 * i + 1) 0 * 256) }
 {
-    for (i, pair) in out.iter_mut().enumerate() {
-        *pair = u16::from_le_bytes([s[2 * i], s[2 * i + 1]]);
+    let (pairs, _) = s.as_chunks::<2>();
+    for (i, pair) in pairs.iter().enumerate() {
+        out[i] = u16::from_le_bytes(*pair);
     }
 }
 
@@ -137,8 +141,9 @@ fn gather_bytes(frame: &[u8; 6144], out: &mut [u8; 6144])
 fn numbers(b: &[u8; 6144], out: &mut [u64; 768])
     ensures { out.new ≡ tabulate 768 (λ j. field_at b.now (64 * j) 64) }
 {
-    for (j, number) in out.iter_mut().enumerate() {
-        *number = bits::load(b, 8 * j);
+    let (chunks, _) = b.as_chunks::<8>();
+    for (j, chunk) in chunks.iter().enumerate() {
+        out[j] = u64::from_be_bytes(*chunk);
     }
 }
 

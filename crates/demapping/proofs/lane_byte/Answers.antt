@@ -8,11 +8,10 @@ use Rattle.demapping.proofs.lane_byte.Goals.{After-put_dibit-z}
 use Rattle.demapping.proofs.lane_byte.Goals as goal
 
 sum : (g : _) (c : After-put_dibit-z g)
-    → let a = c.args in
-    let v = c.put_dibit-w.result + c.put_dibit-x.result + c.put_dibit-y.result + c.put_dibit-z.result in
-    (v ≡ gathered_turned g.row.L g.row.Q a.a a.b a.c a.d) × (v < 256)
+    → let v = c.put_dibit-w.result + c.put_dibit-x.result + c.put_dibit-y.result + c.put_dibit-z.result in
+    (v ≡ gathered_turned g.row.L g.row.Q c.args.four) × (v < 256)
 sum g c =
-    gathered_sum g.row.L g.row.Q _ _ _ _ c.tributary.ensures c.tributary-2.ensures c.tributary-3.ensures c.tributary-4.ensures
+    gathered_sum g.row.L g.row.Q c.args.four c.tributary.ensures c.tributary-2.ensures c.tributary-3.ensures c.tributary-4.ensures
     c.put_dibit-w.ensures c.put_dibit-x.ensures c.put_dibit-y.ensures c.put_dibit-z.ensures
 
 pub overflow_add-result : goal.overflow_add-result

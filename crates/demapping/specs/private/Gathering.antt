@@ -8,11 +8,11 @@ use Rattle.symbols.specs.definitions.Dibits.{dibit_in, tributary_in}
 unfoldable pub dibit_of : ℕ → ℕ → ℕ → ℕ
 dibit_of l r x = bit_of 8 x (2 * tributary_in l r + l % 2) * 2 + bit_of 8 x (2 * tributary_in l r + (l + 1) % 2)
 
--- a byte of the word of lane r from four symbols that are turned, of which the first is number l
-unfoldable pub gathered_turned : ℕ → ℕ → ℕ → ℕ → ℕ → ℕ → ℕ
-gathered_turned l r a b c d =
-    dibit_in (tributary_in l r) a * 64 + dibit_in (tributary_in (l + 1) r) b * 16 + dibit_in (tributary_in (l + 2) r) c * 4
-    + dibit_in (tributary_in (l + 3) r) d
+-- a byte of the word of lane r from a list of four symbols that are turned, of which the first is number l
+unfoldable pub gathered_turned : ℕ → ℕ → List ℕ → ℕ
+gathered_turned l r s =
+    dibit_in (tributary_in l r) (get_or s 0 0) * 64 + dibit_in (tributary_in (l + 1) r) (get_or s 1 0) * 16
+    + dibit_in (tributary_in (l + 2) r) (get_or s 2 0) * 4 + dibit_in (tributary_in (l + 3) r) (get_or s 3 0)
 
 -- a byte of the word of lane r: its dibits in four symbols, of which the first is number l
 unfoldable pub gathered : ℕ → ℕ → ℕ → ℕ → ℕ → ℕ → ℕ
