@@ -6,6 +6,8 @@ use Rattle.decoder.proofs.decode.Kinds as decode-kinds
 use Rattle.decoder.proofs.decode.Reads as decode-reads
 use Rattle.decoder.proofs.flag.Kinds as flag-kinds
 use Rattle.decoder.proofs.flag.Reads as flag-reads
+use Rattle.decoder.proofs.U8FromMend.from.Kinds as number-kinds
+use Rattle.decoder.proofs.U8FromMend.from.Reads as number-reads
 use Rattle.decoder.proofs.decode_frame.Kinds as frame-kinds
 use Rattle.decoder.proofs.decode_frame.Reads as frame_reads
 
@@ -15,6 +17,9 @@ decode_determined κs a x y s t p q = (p ∙ sym q, tt)
 
 pub flag_determined : Fixes 0 flag-kinds.ps flag-kinds.r flag-reads.Post (λ κs s t. Unit)
 flag_determined κs a x y s t p q = (p ∙ sym q, tt)
+
+pub mend_number_determined : Fixes 0 number-kinds.ps number-kinds.r number-reads.Post (λ κs s t. Unit)
+mend_number_determined κs a x y s t p q = (p ∙ sym q, tt)
 
 -- no result, and the words and the flags at exit
 pub decode_frame_determined : Fixes 2 frame-kinds.ps frame-kinds.r frame_reads.Post (λ κs s t. (s.0.now ≡ t.0.now) × (s.1.0.now ≡ t.1.0.now))

@@ -18,6 +18,7 @@ pub struct Pair {
 }
 
 // The tables as arrays, side by side, so that one address leads to them all.
+#[derive(Debug, PartialEq, Eq)]
 pub struct Arrays {
     pub field: [u16; 512],
     pub log: [u8; 128],
@@ -41,7 +42,7 @@ static ARRAYS: Arrays = Arrays {
 };
 
 // The tables: six lead from a remainder to places, one has the remainders of single bits, and one the single bits as words, two numbers each.
-#[derive(Clone, Copy)]
+#[derive(Clone, Copy, Debug, PartialEq, Eq)]
 pub struct Locator {
     pub arrays: &'static Arrays,
     pub ghost finds: { Finds arrays.now },

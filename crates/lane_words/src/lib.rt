@@ -11,7 +11,7 @@ use bits::Word;
 use std::array;
 
 // Third t of lane p: four words in 55 bytes. They are seven numbers of 64 bits that follow each other, but for the last, which begins a byte sooner.
-#[derive(Clone, Copy)]
+#[derive(Clone, Copy, Debug, PartialEq, Eq)]
 struct Third {
     p: usize,
     t: usize,

@@ -10,7 +10,7 @@ ghost use Rattle.shuffle.specs.private.Rotation.{crossed, rotated_first, rotated
 use bits::Word;
 
 // Two halves of a word's information, 55 bits each.
-#[derive(Clone, Copy)]
+#[derive(Clone, Copy, Debug, PartialEq, Eq)]
 struct Halves {
     first: u64,
     second: u64,
