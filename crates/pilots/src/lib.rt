@@ -91,8 +91,8 @@ fn count_agreeing(symbols: &[u8; 128], pilot: u8, right: &mut [u8; 128])
     requires { (j : ℕ) → j < 128 → get_or right.old j 0 < 32 }
     ensures { right.new ≡ tabulate 128 (λ j. get_or right.old j 0 + cond (eqb (get_or symbols.now j 0) pilot) 1 0) }
 {
-    for j in 0..128 {
-        right[j] += u8::from(symbols[j] == pilot);
+    for (j, count) in right.iter_mut().enumerate() {
+        *count += u8::from(symbols[j] == pilot);
     }
 }
 

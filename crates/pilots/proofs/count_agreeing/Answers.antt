@@ -7,8 +7,8 @@ use Rattle.pilots.proofs.count_agreeing.Goals as goal
 pub loop-j-init : goal.loop-j-init
 loop-j-init c = filling_start _ c.told-right
 
-pub overflow_add-right : goal.overflow_add-right
-overflow_add-right c =
+pub overflow_add-count : goal.overflow_add-count
+overflow_add-count c =
     omega (
       arith,
       filling_rest _ c.loop-j.j 0 c.loop-j.invariant (omega arith),
