@@ -27,7 +27,7 @@ const HALF: u64 = 0xFFFFF00000000000;
 const EVEN: u64 = 0xFFC00FFC00000000;
 
 // A state of the register.
-#[derive(Clone, Copy)]
+#[derive(Clone, Copy, Debug, PartialEq, Eq)]
 struct State {
     bits: u64,
     ghost within: { bits < 2 ^ 31 },
@@ -131,8 +131,8 @@ impl State {
         words[0] = self.first_word();
         words[1] = self.ahead(28).ahead(28).ahead(8).first_word();
         next_words(words);
-        grow(1, 31, 64, words);
-        grow(2, 64, 660, words);
+        grow::<1>(31, 64, words);
+        grow::<2>(64, 660, words);
     }
 
     // The lanes of the frame from this state on; the answer is the state after it, the last 31 bits of the stream before they were inverted.
@@ -211,14 +211,14 @@ fn next_words(words: &mut [u64; 661])
     }
 }
 
-// Words up to another place, each by those 28 d and 31 d words before it: the rule holds of words, and of two at a time, as of bits. At twice the distance the
+// Words up to another place, each by those 28 D and 31 D words before it: the rule holds of words, and of two at a time, as of bits. At twice the distance the
 // compiler moves two at a time.
-fn grow(d: usize, from: usize, end: usize, words: &mut [u64; 661])
-    requires { ((d ≡ 1) ⊎ (d ≡ 2)) × (31 * d ≤ from) × (from ≤ end) × (end ≤ 660) }
+fn grow<const D: usize>(from: usize, end: usize, words: &mut [u64; 661])
+    requires { ((D ≡ 1) ⊎ (D ≡ 2)) × (31 * D ≤ from) × (from ≤ end) × (end ≤ 660) }
     ensures { Grows from end words.old words.new }
 {
     for n in from..end {
-        words[n] = !(words[n - 28 * d] ^ words[n - 31 * d]);
+        words[n] = !(words[n - 28 * D] ^ words[n - 31 * D]);
     }
 }
 

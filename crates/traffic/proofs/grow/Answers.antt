@@ -1,4 +1,4 @@
--- `traffic::grow` meets its contract: each word by those 28 d and 31 d before it, `word_grown`. Assumes nothing.
+-- `traffic::grow` meets its contract: each word by those 28 D and 31 D before it, `word_grown`. Assumes nothing.
 use mathlib.Core.Path.{◌≡◌}
 use mathlib.Core.Logic.{◌⊎◌, inl, inr}
 use Prim.Native.Nat.{ℕ, ◌*◌, ◌<◌}
@@ -16,9 +16,9 @@ some d (inl e) = omega arith
 some d (inr e) = omega arith
 
 pub loop-n-preserved : goal.loop-n-preserved
-loop-n-preserved c =
+loop-n-preserved g c =
     let G = c.loop-n.invariant in
-    let d = c.args.d in
+    let d = g.row.D in
     let pre = c.requires in
     grows_more G (omega (arith, G.long))
     (λ s h S. word_grown h S d (rule_at d pre.0) (omega (arith, pre.1, c.loop-n.auto.n)) (some d pre.0))
