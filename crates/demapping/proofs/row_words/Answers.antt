@@ -10,8 +10,8 @@ loop-i-init g c = parts_start _ (omega arith)
 pub loop-i-preserved : goal.loop-i-preserved
 loop-i-preserved g c =
     words_step c.args.s.now g.row.L c.args.at c.loop-i.i (record { byte = c.fits-s }) c.loop-i.invariant c.loop-i-test.true c.turned.ensures
-    c.turned-in-loop-i.ensures c.turned-in-loop-i-2.ensures c.turned-in-loop-i-3.ensures c.lane_byte.ensures c.lane_byte-in-loop-i.ensures c.lane_byte-in-loop-i-2.ensures
-    c.lane_byte-in-loop-i-3.ensures
+    c.turned-in-loop-i.ensures c.turned-in-loop-i-2.ensures c.turned-in-loop-i-3.ensures c.lane_byte.ensures c.lane_byte-in-loop-i.ensures
+    c.lane_byte-in-loop-i-2.ensures c.lane_byte-in-loop-i-3.ensures
 
 pub returns : goal.returns
 returns g c = parts_done _ c.loop-i.invariant (omega arith) (omega arith)
