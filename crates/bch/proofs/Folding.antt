@@ -215,7 +215,8 @@ pub trimmed_step : {s₀ s : List ℕ} {i : ℕ} → i % 2 ≡ 0 → Rewriting (
 trimmed_step {s₀} {s} {i} even R h l₀ =
     let e : 2 * (i / 2) ≡ i = omega (arith, even) in
     let n : i / 2 + 1 ≡ (i + 2) / 2 = omega arith in
-    rw (sym n) (subst (λ (k : ℕ). Rewriting (word_at s₀) 384 s₀ (set s k (get_or s k 0 % 2 ^ 62)) (i / 2 + 1)) e (trimmed_word (i / 2) R (omega arith) (rw e l₀)))
+    rw (sym n)
+    (subst (λ (k : ℕ). Rewriting (word_at s₀) 384 s₀ (set s k (get_or s k 0 % 2 ^ 62)) (i / 2 + 1)) e (trimmed_word (i / 2) R (omega arith) (rw e l₀)))
 
 -- a row above whose words nothing stands is the row of its words
 pub row_own : (s : List ℕ) {top : ℕ} → UppersWithin s top → top < 2 ^ 62 → length s ≡ 768 → s ≡ row_of 384 (word_at s)

@@ -4,7 +4,7 @@ use mathlib.Core.Path.{◌≡◌, refl, sym, ap, ap₂, ◌∙◌}
 use mathlib.Core.Bool.{Bool, not}
 use mathlib.Core.List.{List, [], ◌∷◌}
 use Prim.Native.Nat.{ℕ, zero, suc, ◌+◌, ◌*◌, ◌-◌, ◌/◌, ◌%◌, ◌^◌, ◌≤◌, ◌<◌, zero-le}
-use native.Mathlib.Nat.{zero-add}
+use native.Mathlib.Nat.{zero-add, mul-suc}
 use native.Mathlib.Decide.{dec_lt}
 use native.Mathlib.Omega.{arith}
 use lib.Arith.{lt-one}
@@ -14,6 +14,8 @@ use lib.Dec.{eqb, lit<}
 use lib.ListN.{length, get_or, take, drop, length-take, length-drop, get_or-eq_default}
 use lib.Seq.{get_or-take, get_or-drop}
 use Rattle.std.specs.Prelude.{zip}
+use Rattle.std.specs.Simd.{first_chunks}
+use Rattle.std.proofs.lemmas.List.{drop-drop, drop-take, take-take}
 use Rattle.std.proofs.lemmas.List.Sums.{sum_by-cons}
 use borrow.Author.Tests.{lt-ltb, le-ltb}
 use Rattle.bits.specs.definitions.Bits.{bit_of, bit_at, count}
@@ -108,8 +110,8 @@ part_bytes o n s b m = go (dec_lt m n)
 module _ {fill p o n k : ℕ} (lanes sent : List ℕ) (hf : fill ≤ 165) (hp : p < 32) (ho : o ≡ 165 * p + fill) (hn : n ≡ 165 - fill) (hk : k ≡ n)
     (el : length lanes ≡ 5280) (es : length sent ≡ 5280) (bl : (m : ℕ) → get_or lanes m 0 < 256) (bs : (m : ℕ) → get_or sent m 0 < 256) where
   -- the counts fit
-  pub lane_fits : differing (part o n lanes) (part (165 * p) k sent) < 2 ^ 32
-  lane_fits =
+  part_fits : differing (part o n lanes) (part (165 * p) k sent) < 2 ^ 32
+  part_fits =
       omega (
         arith,
         differing_le (part o n lanes) (part (165 * p) k sent) (part_bytes o n lanes bl) (part_bytes (165 * p) k sent bs),
@@ -117,9 +119,9 @@ module _ {fill p o n k : ℕ} (lanes sent : List ℕ) (hf : fill ≤ 165) (hp : 
       )
 
   -- a lane and what was sent differ behind the fill in the bits in which these parts of them do
-  pub lane_differs : differing (part o n lanes) (part (165 * p) k sent) ≡ count (differs fill lanes sent p) 1320
+  part_differs : differing (part o n lanes) (part (165 * p) k sent) ≡ count (differs fill lanes sent p) 1320
   unfolding differs
-  lane_differs =
+  part_differs =
       let all : 8 * fill + 8 * n ≡ 1320 = omega arith in
       strings_differ a b (part_bytes o n lanes bl) (part_bytes (165 * p) k sent bs) (omega (arith, size, part_length (165 * p) k sent (omega arith)))
       ∙ ap (λ (n : ℕ). count (apart a b) (8 * n)) size
@@ -145,3 +147,43 @@ module _ {fill p o n k : ℕ} (lanes sent : List ℕ) (hf : fill ≤ 165) (hp : 
           let f : 8 * o + i ≡ 1320 * p + (8 * fill + i) = omega arith in
           let g : 8 * (165 * p) + i ≡ 1320 * p + i = omega arith in
           rw (le-ltb (8 * fill + i) (8 * fill) (omega arith), e, part_bit o n lanes i h, part_bit (165 * p) k sent i (omega arith), f, g)
+
+-- lane p of lanes that are cut in lanes
+lane_at : (k : ℕ) (s : List ℕ) (p : ℕ) → p < k → get_or (first_chunks 165 k s) p [] ≡ part (165 * p) 165 s
+lane_at zero s p h = absurd (omega arith)
+lane_at (suc k) s zero h = refl
+lane_at (suc k) s (suc p) h =
+    let e : 165 + 165 * p ≡ 165 * suc p = rw mul-suc (omega arith) in
+    lane_at k (drop 165 s) p (omega arith) ∙ ap (take 165) (drop-drop (165 * p) 165 s ∙ ap (λ (m : ℕ). drop m s) e)
+
+module _ {fill p : ℕ} {lane : List ℕ} (s : List ℕ) (hf : fill ≤ 165) (hp : p < 32) (el : length s ≡ 5280) (is : lane ≡ part (165 * p) 165 s) where
+  behind_fill : take (length lane - fill) (drop fill lane) ≡ part (165 * p + fill) (165 - fill) s
+  behind_fill =
+      let n : ℕ = 165 - fill in
+      let all : 165 ≡ fill + n = omega (arith, hf) in
+      let size : length lane ≡ 165 = ap length is ∙ part_length (165 * p) 165 s (omega (arith, hp, el)) in
+      ap₂ (λ (m : ℕ) (l : List ℕ). take (m - fill) (drop fill l)) size is
+      ∙ ap (take n) (ap (λ (m : ℕ). drop fill (take m (drop (165 * p) s))) all ∙ drop-take fill n (drop (165 * p) s))
+      ∙ take-take n n (drop fill (drop (165 * p) s)) (omega arith) ∙ ap (take n) (drop-drop fill (165 * p) s)
+
+  before_fill : take (165 - fill) lane ≡ part (165 * p) (165 - fill) s
+  before_fill = ap (take (165 - fill)) is ∙ take-take (165 - fill) 165 (drop (165 * p) s) (omega arith)
+
+module _ {fill p : ℕ} {ours theirs : List (List ℕ)} (lanes sent : List ℕ) (hf : fill ≤ 165) (hp : p < 32)
+    (eo : ours ≡ first_chunks 165 (length lanes / 165) lanes) (et : theirs ≡ first_chunks 165 (length sent / 165) sent)
+    (el : length lanes ≡ 5280) (es : length sent ≡ 5280) (bl : (m : ℕ) → get_or lanes m 0 < 256) (bs : (m : ℕ) → get_or sent m 0 < 256) where
+  both : differing (take (length (get_or ours p []) - fill) (drop fill (get_or ours p []))) (take (165 - fill) (get_or theirs p []))
+      ≡ differing (part (165 * p + fill) (165 - fill) lanes) (part (165 * p) (165 - fill) sent)
+  both =
+      ap₂ differing
+      (behind_fill lanes hf hp el (ap (λ (r : List (List ℕ)). get_or r p []) eo ∙ lane_at (length lanes / 165) lanes p (omega (arith, hp, el))))
+      (before_fill sent hf hp es (ap (λ (r : List (List ℕ)). get_or r p []) et ∙ lane_at (length sent / 165) sent p (omega (arith, hp, es))))
+
+  -- the counts of a lane fit
+  pub lane_fits : differing (take (length (get_or ours p []) - fill) (drop fill (get_or ours p []))) (take (165 - fill) (get_or theirs p [])) < 2 ^ 32
+  lane_fits = rw both (part_fits lanes sent hf hp refl refl refl el es bl bs)
+
+  -- and are those behind the fill
+  pub lane_differs : differing (take (length (get_or ours p []) - fill) (drop fill (get_or ours p []))) (take (165 - fill) (get_or theirs p []))
+      ≡ count (differs fill lanes sent p) 1320
+  lane_differs = both ∙ part_differs lanes sent hf hp refl refl refl el es bl bs

@@ -334,10 +334,10 @@ fn count_lanes<const FILL: usize>(lanes: &[u8; 5280], sent: &[u8; 5280], wrong: 
     requires { FILL ≤ 165 }
     ensures { wrong.new ≡ tabulate 32 (λ p. count (differs FILL lanes.now sent.now p) 1320) }
 {
+    let (lanes, _) = lanes.as_chunks::<165>();
+    let (sent, _) = sent.as_chunks::<165>();
     for (p, count) in wrong.iter_mut().enumerate() {
-        let start = 165 * p;
-        let end = start + 165;
-        *count = differing(&lanes[start + FILL..end], &sent[start..end - FILL]);
+        *count = differing(&lanes[p][FILL..], &sent[p][..165 - FILL]);
     }
 }
 
