@@ -58,8 +58,23 @@ impl Hunt {
         self.taken
             .checked_add(piece.len() as u64)
             .ok_or(Refusal::TooMany)?;
-        *self = take_piece(self.taken, kept, piece);
+        self.take_piece(kept, piece);
         Ok(())
+    }
+
+    // A piece, symbol by symbol, until a start is found.
+    fn take_piece(&mut self, kept: &mut [u8; 6144], piece: &[u8])
+        requires { (self.old.found ≡ 0) × (self.old.taken + length piece.now < 2 ^ 64) }
+        ensures { record { hunt = self.new; kept = kept.new } ≡ piece_taken (record { hunt = self.old; kept = kept.old }) piece.now }
+    {
+        for &symbol in piece {
+            let found = take_symbol(self.taken, kept, symbol);
+            self.taken += 1;
+            if found {
+                self.found = 1;
+                return;
+            }
+        }
     }
 }
 
@@ -82,20 +97,4 @@ fn take_symbol(taken: u64, kept: &mut [u8; 6144], symbol: u8) -> bool
     let place = (96 * (taken % 64) + taken / 64 % 96) as usize;
     kept[place] = symbol;
     taken >= 6143 && kept_locks(kept, taken + 1)
-}
-
-// A piece, symbol by symbol, until a start is found.
-fn take_piece(mut taken: u64, kept: &mut [u8; 6144], piece: &[u8]) -> Hunt
-    requires { taken + length piece.now < 2 ^ 64 }
-    ensures { record { hunt = result; kept = kept.new }
-        ≡ piece_taken (record { hunt = record { taken = taken; found = 0 }; kept = kept.old }) piece.now }
-{
-    for &symbol in piece {
-        let found = take_symbol(taken, kept, symbol);
-        taken += 1;
-        if found {
-            return Hunt { taken, found: 1 };
-        }
-    }
-    Hunt { taken, found: 0 }
 }

@@ -44,6 +44,4 @@ returns c =
     let within = rw c.in_ok-ok_or.ensures.ok_part at c.checked_add.ensures in
     let none : h.found ≡ 0 = omega arith in
     done h kept piece (room h kept piece lent.long none (omega arith))
-    (c.take_piece.ensures
-    ∙ ap (λ (k : List ℕ). piece_taken (record { hunt = record { taken = h.taken; found = 0 }; kept = k }) piece) lent.same
-    ∙ ap (λ (f : ℕ). piece_taken (record { hunt = record { taken = h.taken; found = f }; kept = kept }) piece) (sym none))
+    (c.take_piece.ensures ∙ ap (λ (k : List ℕ). piece_taken (record { hunt = h; kept = k }) piece) lent.same)

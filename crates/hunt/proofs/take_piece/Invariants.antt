@@ -1,9 +1,0 @@
--- `hunt::take_piece` meets its contract: what is left of the piece, taken in from here on, comes to what the whole of it does. Assumes nothing.
-use Rattle.std.proofs.Common.{◌≡◌, ◌+◌, drop}
-use Rattle.hunt.specs.definitions.Pieces.{piece_taken}
-use Rattle.hunt.proofs.Taking.{searching}
-use Rattle.hunt.proofs.take_piece.Given as goal
-
-abbrev pub invariant-loop-symbol : goal.invariant-loop-symbol
-invariant-loop-symbol l = (l.taken ≡ l.fn.taken + l.symbol-index)
-    × (piece_taken (searching l.taken l.kept) (drop l.symbol-index l.piece) ≡ piece_taken (searching l.fn.taken l.initial.kept) l.piece)
