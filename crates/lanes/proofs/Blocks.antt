@@ -6,12 +6,17 @@ use mathlib.Core.List.{List, ◌++◌}
 use Prim.Native.Nat.{ℕ, suc, ◌+◌, ◌*◌, ◌-◌, ◌/◌, ◌%◌, ◌≤◌, ◌<◌}
 use native.Mathlib.Omega.{arith}
 use lib.Dec.{ltb}
-use lib.ListN.{length, take, drop}
-use lib.Seq.{drop-append-add}
+use lib.ListN.{length, take, drop, length-take}
+use lib.Seq.{drop-append-add, take-take}
+use Rattle.std.specs.Array.{IsFirstChunk}
 use borrow.Author.Tests.{lt-ltb, le-ltb}
 use Rattle.lanes.specs.definitions.Interleaver.{Rows, row_at}
 use Rattle.lanes.specs.private.Blocks.{block_of, out_from, kept_from}
 use Rattle.lanes.proofs.Rows.{Apart}
+
+-- the first n of the bytes from one on
+pub first_part : (x : List ℕ) (at k n : ℕ) {ys : List ℕ} → IsFirstChunk (take k (drop at x)) ys n → ys ≡ take n (drop at x)
+first_part x at k n is = is.same ∙ take-take n k (drop at x) (omega (arith, is.enough, length-take k (drop at x)))
 
 -- a block of the store, which stands behind the frame's 33
 pub store_block : (f s : List ℕ) {z : List ℕ} (q : ℕ) → f ++ s ≡ z → length f ≡ 165 → block_of s q ≡ block_of z (33 + q)

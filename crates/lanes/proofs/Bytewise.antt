@@ -329,16 +329,17 @@ permuted_cong ex x y same =
 
 -- ---- the loops that store blocks
 
+-- a byte of a part that was read
+part_read : (x : List ℕ) (at n k : ℕ) {part : List ℕ} → part ≡ take n (drop at x) → k < n → get_or part k 0 ≡ get_or x (at + k) 0
+part_read x at n k is h = ap (λ (s : List ℕ). get_or s k 0) is ∙ get_or-take n (drop at x) k 0 h ∙ get_or-drop at x k 0
+
 -- byte k of sixteen blocks of the permuted frame
-pub permuted_at : (ex : Places) (b there e f : ℕ) (row x : List ℕ) → AllBytes x → IsMaskRow ex row → b < 66
-    → (there ≡ (80 * b + 2640) % 5280) × (e ≡ 80 * b + 80) × (f ≡ there + 80)
-    → (k : ℕ) → k < 80 → merged_byte (get_or (take (e - 80 * b) (drop (80 * b) x)) k 0) (get_or (take (f - there) (drop there x)) k 0) (get_or row k 0)
-    ≡ permuted_byte ex x (80 * b + k)
-permuted_at ex b there e f row x X M hb is k hk =
-    let own = get_or-take (e - 80 * b) (drop (80 * b) x) k 0 (omega arith) ∙ get_or-drop (80 * b) x k 0 in
-    let partners = get_or-take (f - there) (drop there x) k 0 (omega arith) ∙ get_or-drop there x k 0 in
+pub permuted_at : (ex : Places) (b there : ℕ) {own partners row : List ℕ} (x : List ℕ) → AllBytes x → IsMaskRow ex row → b < 66
+    → there ≡ (80 * b + 2640) % 5280 → own ≡ take 80 (drop (80 * b) x) → partners ≡ take 80 (drop there x)
+    → (k : ℕ) → k < 80 → merged_byte (get_or own k 0) (get_or partners k 0) (get_or row k 0) ≡ permuted_byte ex x (80 * b + k)
+permuted_at ex b there {own} {partners} {row} x X M hb at mine theirs k hk =
     let c : k % 5 ≡ (80 * b + k) % 5 = omega arith in
-    (λ z. merged_byte (own z) (partners z) (get_or row k 0))
+    (λ z. merged_byte (part_read x (80 * b) 80 k mine hk z) (part_read x there 80 k theirs hk z) (get_or row k 0))
     ∙ permuted_byte_lem ex (80 * b + k) (there + k) (get_or row k 0) x X (omega arith) (omega arith)
     (λ q hq. M.bit k q hk hq ∙ ap (λ (n : ℕ). ex ((8 * n + q) / 10)) c)
 
@@ -364,10 +365,7 @@ moved_byte z from i = block_byte z (from (i / 5)) (i % 5)
 -- a byte of a block that was copied
 pub block_read : (z : List ℕ) (v c : ℕ) {part : List ℕ} → part ≡ block_of z v → c < 5 → get_or part c 0 ≡ block_byte z v c
 unfolding block_byte
-block_read z v c is h = ap (λ (s : List ℕ). get_or s c 0) is ∙ get_or-take 5 (drop (5 * v) z) c 0 h ∙ get_or-drop (5 * v) z c 0
-
-pub block_filled : (z : List ℕ) (v : ℕ) → 5 * v + 5 ≤ length z → tabulate 5 (block_byte z v) ≡ block_of z v
-block_filled z v room = sym (is_tabulate 0 (block_of z v) 5 (block_byte z v) (simp (length-take, length-drop) (omega arith)) (λ c. block_read z v c refl))
+block_read z v c is h = part_read z (5 * v) 5 c is h
 
 -- a step that lends the part of block b, where another is copied
 pub block_step : (z : List ℕ) (from : ℕ → ℕ) (b e : ℕ) (part : List ℕ) {n i : ℕ} {out₀ out : List ℕ} → Filling (moved_byte z from) n out₀ out i

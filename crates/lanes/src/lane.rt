@@ -9,8 +9,8 @@ use std::marker::Model;
 // A lane's 33 blocks of a frame, with the 18 of its store behind them.
 #[derive(Drop)]
 pub struct Lane<'a> {
-    frame: &'a [u8],
-    store: &'a [u8],
+    frame: &'a [u8; 165],
+    store: &'a [u8; 90],
 }
 
 impl<'a> Model for Lane<'a> {
@@ -18,20 +18,7 @@ impl<'a> Model for Lane<'a> {
 
     ghost view = { λ lane. lane.frame.now ++ lane.store.now };
 
-    ghost invariant = { λ lane. (length lane.frame.now ≡ 165) × (length lane.store.now ≡ 90) };
-}
-
-// Block b of a lane's frame or of its store.
-fn block_at(blocks: &[u8], b: usize) -> [u8; 5]
-    requires { 5 * b + 5 ≤ length blocks.now }
-    ensures { result ≡ block_of blocks.now b }
-{
-    let at = 5 * b;
-    let mut block = [0u8; 5];
-    for c in 0..5 {
-        block[c] = blocks[at + c];
-    }
-    block
+    ghost invariant = { λ lane. length lane.frame.now ≡ 165 };
 }
 
 // A block stored, which was read whole before, so that the compiler makes two moves of the five bytes.
@@ -39,9 +26,7 @@ fn put_block(block: [u8; 5], out: &mut [u8])
     requires { length out.old ≡ 5 }
     ensures { out.new ≡ block }
 {
-    for c in 0..5 {
-        out[c] = block[c];
-    }
+    *out.as_mut_array().unwrap() = block;
 }
 
 impl<'a> Lane<'a> {
@@ -50,11 +35,9 @@ impl<'a> Lane<'a> {
         requires { p < 32 }
         ensures { result ≡ lane_of frame.now store.now p }
     {
-        let at = 165 * p;
-        let behind = 90 * p;
         Lane {
-            frame: &frame[at..at + 165],
-            store: &store[behind..behind + 90],
+            frame: frame[165 * p..].first_chunk().unwrap(),
+            store: store[90 * p..].first_chunk().unwrap(),
         }
     }
 
@@ -63,7 +46,8 @@ impl<'a> Lane<'a> {
         requires { b < 33 }
         ensures { result ≡ block_of self.now b }
     {
-        block_at(self.frame, b)
+        let frame = self.frame;
+        *frame[5 * b..].first_chunk().unwrap()
     }
 
     // Block q of the store.
@@ -71,7 +55,8 @@ impl<'a> Lane<'a> {
         requires { q < 18 }
         ensures { result ≡ block_of self.now (33 + q) }
     {
-        block_at(self.store, q)
+        let store = self.store;
+        *store[5 * q..].first_chunk().unwrap()
     }
 
     // The block that comes out of row r at turn t: first those of the store, oldest first, and then those that entered with the frame.

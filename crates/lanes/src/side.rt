@@ -25,6 +25,7 @@ pub trait Side {
     ghost fills: { FillStore rows FIRST_KEPT };
 }
 
+#[derive(Clone, Copy, Debug, PartialEq, Eq)]
 pub struct Sender;
 
 impl Side for Sender {
@@ -45,6 +46,7 @@ impl Side for Sender {
     ghost fills = { Prim.search rules };
 }
 
+#[derive(Clone, Copy, Debug, PartialEq, Eq)]
 pub struct Receiver;
 
 impl Side for Receiver {

@@ -6,7 +6,7 @@ use Rattle.lanes.specs.private.Blocks.{merged_byte}
 use Rattle.lanes.proofs.merge_blocks.Goals as goal
 
 pub loop-i-init : goal.loop-i-init
-loop-i-init c = filling_start _ c.requires.2
+loop-i-init c = filling_start _ (omega arith)
 
 pub loop-i-preserved : goal.loop-i-preserved
 unfolding merged_byte
