@@ -328,16 +328,15 @@ fn differing(a: &[u8], b: &[u8]) -> u32
     a.iter().zip(b).map(|(a, b)| (a ^ b).count_ones()).sum()
 }
 
-// How many bits of each lane differ from what was sent, which the lane holds from byte `FILL` on; the bytes before it are not compared. The fill is a
-// parameter of the function, so that the compiler counts parts of a known length.
-fn count_lanes<const FILL: usize>(lanes: &[u8; 5280], sent: &[u8; 5280], wrong: &mut [u32; 32])
-    requires { FILL ≤ 165 }
-    ensures { wrong.new ≡ tabulate 32 (λ p. count (differs FILL lanes.now sent.now p) 1320) }
+// How many bits of each lane differ from what was sent, which the lane holds from byte `fill` on; the bytes before it are not compared.
+fn count_lanes(fill: usize, lanes: &[u8; 5280], sent: &[u8; 5280], wrong: &mut [u32; 32])
+    requires { fill ≤ 165 }
+    ensures { wrong.new ≡ tabulate 32 (λ p. count (differs fill lanes.now sent.now p) 1320) }
 {
     let (lanes, _) = lanes.as_chunks::<165>();
     let (sent, _) = sent.as_chunks::<165>();
     for (p, count) in wrong.iter_mut().enumerate() {
-        *count = differing(&lanes[p][FILL..], &sent[p][..165 - FILL]);
+        *count = differing(&lanes[p][fill..], &sent[p][..165 - fill]);
     }
 }
 
@@ -357,10 +356,11 @@ pub fn check(f: u32, lanes: &[u8], wrong: &mut [u32]) -> Result<(), Refusal>
     let wrong = wrong.as_mut_array::<32>().ok_or(Refusal::Output)?;
     let mut sent = [0; 5280];
     State::after(start_of(f)).generate(&mut sent);
-    match f {
-        0 => count_lanes::<165>(lanes, &sent, wrong),
-        1 => count_lanes::<15>(lanes, &sent, wrong),
-        _ => count_lanes::<0>(lanes, &sent, wrong),
-    }
+    let fill = match f {
+        0 => 165,
+        1 => 15,
+        _ => 0,
+    };
+    count_lanes(fill, lanes, &sent, wrong);
     Ok(())
 }

@@ -5,4 +5,4 @@ use Rattle.traffic.specs.private.Counting.{differs}
 use Rattle.traffic.proofs.count_lanes.Given as goal
 
 abbrev pub invariant-loop-p : goal.invariant-loop-p
-invariant-loop-p g l = Filling (λ q. count (differs g.row.FILL l.fn.lanes l.fn.sent q) 1320) 32 l.initial.wrong l.wrong l.p
+invariant-loop-p l = Filling (λ q. count (differs l.fill l.fn.lanes l.fn.sent q) 1320) 32 l.initial.wrong l.wrong l.p
