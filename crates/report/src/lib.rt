@@ -5,20 +5,30 @@ ghost use Rattle.std.specs.Prelude.{◌≡◌, ◌++◌, ◌+◌, ◌≤◌, if�
 ghost use Rattle.account.specs.declared.Verdict.{Verdict};
 ghost use Rattle.report.specs.definitions.Report.{line, verdict_name, text, written, longest};
 
-use arrayvec::ArrayString;
+use arrayvec::ArrayVec;
 
 // Room for every report.
 pub const LONGEST: usize = 213;
 
-// A line of figures, behind what was written: its name, a number, the line's end. It has at most 21 bytes besides the name.
-fn put_line(report: &mut ArrayString<LONGEST>, name: &str, n: u64)
-    requires { length report.old.bytes + length name.now + 21 ≤ longest }
-    ensures bytes { report.new.bytes ≡ report.old.bytes ++ line name.now n }
-    ensures upper_bound { length report.new.bytes ≤ length report.old.bytes + length name.now + 21 }
+// Bytes behind what was written. One by one: the library's copy of a part calls C's `memmove`, which no host is told to have.
+fn put(report: &mut ArrayVec<u8, LONGEST>, text: &[u8])
+    requires { length report.old.items + length text.now ≤ longest }
+    ensures { report.new.items ≡ report.old.items ++ text.now }
 {
-    report.push_str(name);
-    report.push_str(itoa::Buffer::new().format(n));
-    report.push('\n');
+    for byte in text {
+        report.push(*byte);
+    }
+}
+
+// A line of figures, behind what was written: its name, a number, the line's end. It has at most 21 bytes besides the name.
+fn put_line(report: &mut ArrayVec<u8, LONGEST>, name: &str, n: u64)
+    requires { length report.old.items + length name.now + 21 ≤ longest }
+    ensures items { report.new.items ≡ report.old.items ++ line name.now n }
+    ensures upper_bound { length report.new.items ≤ length report.old.items + length name.now + 21 }
+{
+    put(report, name.as_bytes());
+    put(report, itoa::Buffer::new().format(n).as_bytes());
+    report.push(b'\n');
 }
 
 // A verdict in words.
@@ -34,12 +44,12 @@ fn verdict_name(verdict: account::Verdict) -> &'static str
 }
 
 // The whole report.
-fn text(run: bench::Run) -> ArrayString<LONGEST>
-    ensures { result.bytes ≡ text run }
+fn text(run: bench::Run) -> ArrayVec<u8, LONGEST>
+    ensures { result.items ≡ text run }
 {
     let account = run.account;
     let words = account.words;
-    let mut report = ArrayString::new();
+    let mut report = ArrayVec::new();
     put_line(&mut report, "asked ", u64::from(run.asked));
     put_line(&mut report, "accepted ", account.accepted);
     put_line(&mut report, "missing ", account.missing);
@@ -47,9 +57,9 @@ fn text(run: bench::Run) -> ArrayString<LONGEST>
     put_line(&mut report, "one ", words.one);
     put_line(&mut report, "two ", words.two);
     put_line(&mut report, "flagged ", words.flagged);
-    report.push_str("verdict ");
-    report.push_str(verdict_name(run.verdict()));
-    report.push('\n');
+    put(&mut report, b"verdict ");
+    put(&mut report, verdict_name(run.verdict()).as_bytes());
+    report.push(b'\n');
     report
 }
 
@@ -59,7 +69,7 @@ pub fn report(run: bench::Run, out: &mut [u8]) -> Option<usize>
     ensures written { out.new ≡ written run out.old }
 {
     let report = text(run);
-    let bytes = report.as_str().as_bytes();
+    let bytes = report.as_slice();
     if out.len() < bytes.len() {
         return None;
     }

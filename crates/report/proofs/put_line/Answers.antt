@@ -7,9 +7,9 @@ use Rattle.report.proofs.Decimal.{decimal_printed}
 use Rattle.report.proofs.Writing.{line_behind}
 use Rattle.report.proofs.put_line.Goals as goal
 
-pub returns-clause-bytes : goal.returns-clause-bytes
-returns-clause-bytes c =
+pub returns-clause-items : goal.returns-clause-items
+returns-clause-items c =
     let number = c.format.ensures.text ∙ decimal_printed c.args.n (omega arith) in
-    c.push.ensures.ascii (omega arith)
-    ∙ ap (λ (l : List ℕ). l ++ (10 ∷ [])) (c.push_str-2.ensures.bytes ∙ ap₂ ◌++◌ c.push_str.ensures.bytes number)
-    ∙ line_behind c.args.report.now.bytes c.args.name.now c.args.n
+    c.push.ensures.items
+    ∙ ap (λ (l : List ℕ). l ++ (10 ∷ [])) (c.put-2.ensures ∙ ap₂ ◌++◌ (c.put.ensures ∙ ap (λ (l : List ℕ). c.args.report.now.items ++ l) c.as_bytes.ensures.value) (c.as_bytes-2.ensures.value ∙ number))
+    ∙ line_behind c.args.report.now.items c.args.name.now c.args.n

@@ -5,9 +5,9 @@ use Rattle.report.proofs.report.Goals as goal
 
 pub returns-then-out-bytes-clause-written : goal.returns-then-out-bytes-clause-written
 returns-then-out-bytes-clause-written c =
-    none_written c.args.run c.args.out.now (c.as_bytes-bytes.ensures.value ∙ c.as_str.ensures.value ∙ c.text-report.ensures) c.if-out-bytes.true
+    none_written c.args.run c.args.out.now (c.as_slice-bytes.ensures.value ∙ c.text-report.ensures) c.if-out-bytes.true
 
 pub returns-clause-written : goal.returns-clause-written
 returns-clause-written c =
-    all_written c.args.run c.args.out.now (c.as_bytes-bytes.ensures.value ∙ c.as_str.ensures.value ∙ c.text-report.ensures) c.copy_from_slice.ensures.after
+    all_written c.args.run c.args.out.now (c.as_slice-bytes.ensures.value ∙ c.text-report.ensures) c.copy_from_slice.ensures.after
     c.if-out-bytes.false
