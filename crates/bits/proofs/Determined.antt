@@ -7,8 +7,6 @@ use Rattle.bits.proofs.load.Kinds as load-kinds
 use Rattle.bits.proofs.load.Reads as load-reads
 use Rattle.bits.proofs.put.Kinds as put-kinds
 use Rattle.bits.proofs.put.Reads as put_reads
-use Rattle.bits.proofs.copy.Kinds as copy-kinds
-use Rattle.bits.proofs.copy.Reads as copy-reads
 
 pub load_determined : Fixes 1 load-kinds.ps load-kinds.r load-reads.Post (λ κs s t. Unit)
 load_determined κs a x y s t p q = (p ∙ sym q, tt)
@@ -16,6 +14,3 @@ load_determined κs a x y s t p q = (p ∙ sym q, tt)
 -- no result, and the bytes at exit
 pub put_determined : Fixes 1 put-kinds.ps put-kinds.r put_reads.Post (λ κs s t. s.0.now ≡ t.0.now)
 put_determined κs a x y s t p q = (refl, put_eight_unique p q)
-
-pub copy_determined : Fixes 2 copy-kinds.ps copy-kinds.r copy-reads.Post (λ κs s t. s.1.0.now ≡ t.1.0.now)
-copy_determined κs a x y s t p q = (refl, p ∙ sym q)

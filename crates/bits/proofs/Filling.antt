@@ -1,16 +1,15 @@
 -- A loop that fills a buffer from the front: `while i < n { out[i] = v; i += 1 }`. `Filling` is its invariant; `filling_start`, `filling_step` and
 -- `filling_done` answer where the loop begins, after a step and at the end; `filling_put` a step that lends a part to a callee. The measure is n - i.
 -- Assumes nothing.
-use mathlib.Core.Path.{◌≡◌, refl, sym, ap, ap₂, ◌∙◌, subst}
+use mathlib.Core.Path.{◌≡◌, refl, sym, ap, ◌∙◌, subst}
 use mathlib.Core.List.{List, [], ◌∷◌, ◌++◌, append-nil, append_assoc}
-use Prim.Native.Nat.{ℕ, zero, suc, ◌+◌, ◌-◌, ◌≤◌, ◌<◌, min, zero-le}
+use Prim.Native.Nat.{ℕ, zero, suc, ◌+◌, ◌-◌, ◌≤◌, ◌<◌, zero-le}
 use native.Mathlib.Nat.{not-suc-le-zero, le_of_suc-le-suc}
-use native.Mathlib.Decide.{dec_lt}
 use native.Mathlib.Numerals.{add-one}
 use native.Mathlib.Omega.{arith}
-use lib.ListN.{length, get_or, set, drop, take, length-append, length-take, length-drop, length-set, drop_of_length-le}
-use lib.Seq.{take_all, take-length, drop-length, take_at, drop-append-add, drop-drop, get_or-append-add, get_or-drop}
-use Rattle.bits.specs.definitions.Bits.{tabulate, copied}
+use lib.ListN.{length, get_or, set, drop, take, length-append, length-take, length-drop, length-set}
+use lib.Seq.{drop-length, take_at, drop-append-add, drop-drop, get_or-append-add, get_or-drop}
+use Rattle.bits.specs.definitions.Bits.{tabulate}
 use Rattle.bits.proofs.Tabulate.{length_tabulate, tabulate_cong, tabulate_append}
 
 -- out holds the first i elements of the table of f, and then what out₀ had; both are n long
@@ -100,31 +99,3 @@ module _ {A : Type 0} (f : ℕ → A) {n : ℕ} {out₀ : List A} where
           (λ k. front k ++ (middle k ++ back k))
           ∙ sym (append_assoc (tabulate i f) (tabulate m (λ j. f (i + j))) (drop e out₀))
           ∙ ap (λ (t : List A). t ++ drop e out₀) (sym (tabulate_append i m f) ∙ ap (λ (k : ℕ). tabulate k f) whole)
-
--- a buffer filled in front holds the table over what was there
-pub filling_over : {A : Type 0} (f : ℕ → A) {l : ℕ} {out₀ out : List A} {n : ℕ} → Filling f l out₀ out n → out ≡ copied (tabulate n f) out₀
-unfolding copied
-filling_over f {l} {out₀} {out} {n} F =
-    let fits : length (tabulate n f) ≤ length out₀ = rw length_tabulate (omega (arith, F.long₀, F.upto)) in
-    F.is ∙ ap₂ ◌++◌ (sym (take_all (length out₀) (tabulate n f) fits)) (ap (λ (k : ℕ). drop k out₀) (sym (length_tabulate n f)))
-
--- as many elements as the shorter has, copied over the first of the other
-pub copied_shorter : {A : Type 0} (a b : List A) {c : List A} {n : ℕ} → n ≡ min (length a) (length b) → c ≡ take n a → c ++ drop n b ≡ copied a b
-unfolding copied
-copied_shorter a b {c} {n} m e = ap (λ l. l ++ drop n b) e ∙ at (dec_lt (length a) (length b))
-  where
-    at : Dec (length a < length b) → take n a ++ drop n b ≡ take (length b) a ++ drop (length a) b
-    at (yes h) =
-        let q : n ≡ length a = omega (arith, m) in
-        ap₂ ◌++◌ (ap (λ k. take k a) q ∙ take-length a ∙ sym (take_all (length b) a (omega arith))) (ap (λ k. drop k b) q)
-    at (no h) =
-        let q : n ≡ length b = omega (arith, m) in
-        ap₂ ◌++◌ (ap (λ k. take k a) q) (ap (λ k. drop k b) q ∙ drop-length b ∙ sym (drop_of_length-le b (omega arith)))
-
--- where they are equally long, that is the other
-pub copied_all : {A : Type 0} (a b : List A) → length a ≡ length b → copied a b ≡ a
-unfolding copied
-copied_all a b e =
-    let l : length b ≤ length a = omega arith in
-    let r : length a ≤ length b = omega arith in
-    ap₂ ◌++◌ (take_all (length b) a r) (drop_of_length-le b l) ∙ append-nil a

@@ -2,14 +2,14 @@
 -- Assumes nothing.
 use mathlib.Core.Path.{◌≡◌, sym, ap, ◌∙◌}
 use mathlib.Core.Logic.{◌≢◌}
-use mathlib.Core.List.{List, ◌++◌, append-nil}
+use mathlib.Core.List.{List, ◌++◌}
 use Prim.Native.Nat.{ℕ, ◌+◌, ◌-◌, ◌*◌, ◌<◌, ◌≤◌}
 use native.Mathlib.Nat.{not-suc-le-zero}
 use native.Mathlib.Decide.{ℕ_discrete, dec_lt}
 use native.Mathlib.Omega.{arith}
-use lib.ListN.{get_or, length, set, take, drop, length-append, length-take, length-drop, length-set, get_or-append, drop_of_length-le}
+use lib.ListN.{get_or, length, set, take, drop, length-append, length-take, length-drop, length-set, get_or-append}
 use lib.Seq.{get_or-append-add, get_or-take, get_or-drop, get_or-set_same, get_or-set_other}
-use Rattle.bits.specs.definitions.Bits.{tabulate, copied}
+use Rattle.bits.specs.definitions.Bits.{tabulate}
 use Rattle.bits.proofs.Tabulate.{is_tabulate}
 
 -- ---- a part put back
@@ -37,14 +37,6 @@ module _ (out part : List ℕ) (i n : ℕ) (size : length part ≡ n) (room : i 
 
   pub part_length : length (take i out ++ (part ++ drop n (drop i out))) ≡ length out
   part_length = simp (length-append, length-take, length-drop) (omega arith)
-
--- ---- a list copied from the front of a longer one
-
-pub copied_front : (n : ℕ) (z o₀ : List ℕ) {o : List ℕ} → o ≡ copied z o₀ → length o₀ ≡ n → n ≤ length z → o ≡ take n z
-unfolding copied
-copied_front n z o₀ {o} is lo h =
-    let none : length o₀ ≤ length z = omega arith in
-    is ∙ ap (λ (l : List ℕ). take (length o₀) z ++ l) (drop_of_length-le o₀ none) ∙ append-nil (take (length o₀) z) ∙ ap (λ (n : ℕ). take n z) lo
 
 -- ---- a list filled from the front of each of four parts of m elements
 

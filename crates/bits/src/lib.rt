@@ -1,18 +1,14 @@
 // Bits, words and rows, and the laws of them that every other crate cites. The code is what moves bytes without a question asked.
 #![tactic(auto)]
 
-ghost use Rattle.std.specs.Prelude.{◌≡◌, ◌%◌, ◌^◌, ◌<◌, length};
-ghost use Rattle.bits.specs.definitions.Bits.{loaded_at, copied};
+ghost use Rattle.std.specs.Prelude.{◌≡◌};
+ghost use Rattle.bits.specs.definitions.Bits.{loaded_at};
 ghost use Rattle.bits.specs.definitions.Put.{PutEight};
 
-// Powers of two by which numbers are cut, as the definitions write them: 2^24 and so on.
-pub const TWO_24: u64 = 1 << 24;
-
+// Powers of two by which numbers are cut, as the definitions write them: 2^31 and so on.
 pub const TWO_31: u64 = 1 << 31;
 
 pub const TWO_32: u64 = 1 << 32;
-
-pub const TWO_40: u64 = 1 << 40;
 
 pub const TWO_48: u64 = 1 << 48;
 
@@ -52,12 +48,4 @@ pub fn put(out: &mut [u8], o: usize, v: u64)
         return;
     }
     out[o..o + 8].copy_from_slice(&v.to_be_bytes());
-}
-
-// The bytes of from over those of to, as far as both go.
-pub fn copy(from: &[u8], to: &mut [u8])
-    ensures { to.new ≡ copied from.now to.old }
-{
-    let n = from.len().min(to.len());
-    to[..n].copy_from_slice(&from[..n]);
 }

@@ -4,47 +4,31 @@
 ghost use Rattle.std.specs.Prelude.{◌≡◌};
 ghost use Rattle.refusal.specs.definitions.Refusal.{number_of, answer_of};
 
-// What a call may be refused for, in the order of the numbers.
+// What a call may be refused for, each with its number.
 #[derive(Clone, Copy, Debug, PartialEq, Eq)]
 pub enum Refusal {
-    Input,
-    Store,
-    Output,
-    Flags,
-    NoLock,
-    CutShort,
-    Length,
-    Version,
-    Kind,
-    Late,
-    Limit,
-    Tallies,
-    ShortRun,
-    MoreThanOne,
-    TooMany,
+    Input = 1,
+    Store = 2,
+    Output = 3,
+    Flags = 4,
+    NoLock = 5,
+    CutShort = 6,
+    Length = 7,
+    Version = 8,
+    Kind = 9,
+    Late = 10,
+    Limit = 11,
+    Tallies = 12,
+    ShortRun = 13,
+    MoreThanOne = 22,
+    TooMany = 23,
 }
 
 impl From<Refusal> for u32 {
     ghost from_gives = { λ refusal number. number ≡ number_of refusal };
 
     fn from(refusal: Refusal) -> u32 {
-        match refusal {
-            Refusal::Input => 1,
-            Refusal::Store => 2,
-            Refusal::Output => 3,
-            Refusal::Flags => 4,
-            Refusal::NoLock => 5,
-            Refusal::CutShort => 6,
-            Refusal::Length => 7,
-            Refusal::Version => 8,
-            Refusal::Kind => 9,
-            Refusal::Late => 10,
-            Refusal::Limit => 11,
-            Refusal::Tallies => 12,
-            Refusal::ShortRun => 13,
-            Refusal::MoreThanOne => 22,
-            Refusal::TooMany => 23,
-        }
+        refusal as u32
     }
 }
 

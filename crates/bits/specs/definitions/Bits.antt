@@ -1,7 +1,7 @@
 -- Lists by their elements, numbers by their digits, bytes by their bits: the earliest bit stands in the top bit of a byte (01, one frame in
 -- numbers). And counting, the smallest number and the first of a list that pass a test.
 -- Assumes nothing.
-use Rattle.std.specs.Prelude.{Bool, cond, List, [], ◌∷◌, ◌++◌, ℕ, zero, suc, ◌+◌, ◌*◌, ◌-◌, ◌/◌, ◌%◌, ◌^◌, ◌<◌, ltb, get_or, length, take, drop}
+use Rattle.std.specs.Prelude.{Bool, cond, List, [], ◌∷◌, ℕ, zero, suc, ◌+◌, ◌*◌, ◌-◌, ◌/◌, ◌%◌, ◌^◌, ◌<◌, ltb, get_or, length}
 
 -- the list f 0, f 1, .., f (n - 1)
 unfoldable pub tabulate : {A : Type 0} → ℕ → (ℕ → A) → List A
@@ -40,10 +40,6 @@ bytes n f = tabulate n (λ b. number 8 (λ i. f (8 * b + i)))
 -- every element is a byte
 pub record AllBytes (s : List ℕ) : Type 0 where
   pub byte : (m : ℕ) → get_or s m 0 < 256
-
--- the elements of a over those of b, as far as both go
-unfoldable pub copied : {A : Type 0} → List A → List A → List A
-copied a b = take (length b) a ++ drop (length a) b
 
 -- how many i below n pass the test
 unfoldable pub count : (ℕ → Bool) → ℕ → ℕ
