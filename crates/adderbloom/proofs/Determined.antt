@@ -53,6 +53,12 @@ use Rattle.adderbloom.proofs.hunts.lr800_hunt_answer.Reads as hunt-answer-reads
 use Rattle.adderbloom.specs.contracts.hunts.lr800_hunt_open as hunt-open
 use Rattle.adderbloom.specs.contracts.hunts.lr800_hunt_feed as hunt-feed
 use Rattle.hunt.specs.definitions.Pieces.{opened as hunt-opened, Feeds}
+use Rattle.adderbloom.proofs.hunts.FoundFromResultOptionU64Refusal.from.Kinds as found-from-kinds
+use Rattle.adderbloom.proofs.hunts.FoundFromResultOptionU64Refusal.from.Reads as found-from-reads
+use Rattle.adderbloom.proofs.runs.BenchRunFromRun.from.Kinds as run-of-kinds
+use Rattle.adderbloom.proofs.runs.BenchRunFromRun.from.Reads as run-of-reads
+use Rattle.adderbloom.proofs.runs.RunFromBenchRun.from.Kinds as kept-run-kinds
+use Rattle.adderbloom.proofs.runs.RunFromBenchRun.from.Reads as kept-run-reads
 
 -- the number, and the store and the output at exit
 pub send_determined : Fixes 3 send-kinds.ps send-kinds.r send-reads.Post (λ κs s t. (s.1.0.now ≡ t.1.0.now) × (s.1.1.0.now ≡ t.1.1.0.now))
@@ -106,6 +112,16 @@ hunt_determined κs a x y s t p q = (p ∙ sym q, tt)
 
 pub hunt_answer_determined : Fixes 0 hunt-answer-kinds.ps hunt-answer-kinds.r hunt-answer-reads.Post (λ κs s t. Unit)
 hunt_answer_determined κs a x y s t p q = (p ∙ sym q, tt)
+
+-- conversions: of what a search says, of a kept run, of a run
+pub found_from_determined : Fixes 0 found-from-kinds.ps found-from-kinds.r found-from-reads.Post (λ κs s t. Unit)
+found_from_determined κs a x y s t p q = (p ∙ sym q, tt)
+
+pub run_of_determined : Fixes 0 run-of-kinds.ps run-of-kinds.r run-of-reads.Post (λ κs s t. Unit)
+run_of_determined κs a x y s t p q = (p ∙ sym q, tt)
+
+pub kept_run_determined : Fixes 0 kept-run-kinds.ps kept-run-kinds.r kept-run-reads.Post (λ κs s t. Unit)
+kept_run_determined κs a x y s t p q = (p ∙ sym q, tt)
 
 -- The functions that are lent an account, a run or a search's numbers, over what their clauses say.
 
