@@ -15,6 +15,7 @@ pub fn lr800_account_open(a: &mut Account, start: u32)
 }
 
 // A frame by its flag bytes.
+#[tactic(auto, unfolding(crate::specs::definitions::Entry::flags_entered))]
 fn enter_flags(a: &mut Account, got: u32, flags: &[u8]) -> Result<(), Refusal>
     ensures { record { refusal = answer_of result; account = a.new } ≡ flags_entered a.old got flags.now }
 {

@@ -20,6 +20,7 @@ pub struct Found {
 impl From<Result<Option<u64>, Refusal>> for Found {
     ghost from_gives = { λ said numbers. numbers ≡ found_of (found_in said) };
 
+    #[tactic(auto, unfolding(crate::specs::definitions::Found::found_of))]
     fn from(said: Result<Option<u64>, Refusal>) -> Found {
         let (refusal, found, offset) = match said {
             Ok(None) => (0, 0, 0),

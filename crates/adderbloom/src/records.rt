@@ -18,6 +18,7 @@ pub struct Record {
 }
 
 // Nothing at this place: what a record does not have is 0.
+#[tactic(auto, unfolding(crate::specs::definitions::Record::record_of))]
 fn nothing(place: usize) -> Record
     ensures { result ≡ record_of End place }
 {
@@ -33,6 +34,7 @@ fn nothing(place: usize) -> Record
 }
 
 // What stands at a place of a capture; any place is lawful, also one beyond the end.
+#[tactic(auto, unfolding(crate::specs::definitions::Record::record_of))]
 pub fn lr800_read(capture: &[u8], place: usize) -> Record
     ensures { result ≡ record_of (read_at capture.now place) place }
 {

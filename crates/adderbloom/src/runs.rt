@@ -19,6 +19,7 @@ pub struct Run {
 }
 
 // The phase's number.
+#[tactic(auto, unfolding(crate::specs::definitions::Run::phase_number))]
 fn phase_number(phase: Phase) -> u32
     ensures { result ≡ phase_number phase }
 {
@@ -30,6 +31,7 @@ fn phase_number(phase: Phase) -> u32
 }
 
 // The phase by its number: any number above 1 says stopped.
+#[tactic(auto, unfolding(crate::specs::definitions::Run::phase_of))]
 fn phase_of(number: u32) -> Phase
     ensures { result ≡ phase_of number }
 {

@@ -9,17 +9,22 @@ use prog.Routine.{Routine}
 use types.Logic.{Logic}
 use contract.Lifetimes.{Lfts}
 use contract.Monad.{Fun}
+use denote.RattleType.{RattleType}
+use denote.Param.Laws.{Laws, IsCopy}
+use mir.Syntax.{Dict}
+use Rattle.std.specs.declared.clone.Clone.{Ghosts}
 use denote.Triple.Clauses.{AtExit}
 use borrow.Fn.Kinds.{Dens, res_t, ended_of}
 use Rattle.bits.proofs.Fixes.{Fixes, FixesSaid}
-use Rattle.std.proofs.Common.{arith, Option, Result, Err}
+use Prim.Native.Nat.{ℕ}
+use Rattle.std.proofs.Common.{arith, Option, Some, None, Result, Ok, Err}
 use Rattle.refusal.specs.declared.Refusal.{Refusal}
 use Rattle.refusal.specs.definitions.Refusal.{number_of}
 use Rattle.refusal.proofs.Numbers.{answer_injective}
 use Rattle.capture.specs.declared.Reader.{Reader}
 use Rattle.capture.specs.declared.Record.{Record}
-use Rattle.capture.specs.definitions.Read.{read_in}
-use Rattle.capture.specs.definitions.Capture.{read_at, symbols_at}
+use Rattle.capture.specs.definitions.Read.{read_in, standing_in}
+use Rattle.capture.specs.definitions.Capture.{read_at, symbols_at, next_of}
 use Rattle.capture.proofs.read_at.Kinds as read-kinds
 use Rattle.capture.proofs.read_at.Reads as read-reads
 use Rattle.capture.proofs.symbols_at.Kinds as symbols-kinds
@@ -60,8 +65,15 @@ symbols_at_determined κs a x y s t p q = p ∙ sym q
 pub record_next_determined : Fixes 1 behind-kinds.ps behind-kinds.r behind-reads.Post (λ κs s t. Unit)
 record_next_determined κs a x y s t p q = (p ∙ sym q, tt)
 
-pub next_place_determined : Fixes 0 place-kinds.ps place-kinds.r place-reads.Post (λ κs s t. Unit)
-next_place_determined κs a x y s t p q = (p ∙ sym q, tt)
+-- whatever tells of a refusal; told by this crate's, the place is the one behind what was read
+pub standing_read : (r : Result (Option Record) Refusal) (i : ℕ) → next_of (standing_in r) i ≡ next_of (read_in r) i
+standing_read (Ok None) i = refl
+standing_read (Ok (Some x)) i = refl
+standing_read (Err refusal) i = refl
+
+pub next_place_determined : (T : RattleType) (laws : Laws T) (copy : IsCopy T) (ghosts : Ghosts T.Denot) (cloned : Dict)
+    → Fixes 1 (place-kinds.ps T laws copy) (place-kinds.r T laws copy) (place-reads.Post T laws copy ghosts cloned) (λ κs s t. Unit)
+next_place_determined T laws copy ghosts cloned κs a x y s t p q = (p ∙ sym q, tt)
 
 -- a number of bytes
 pub wanted_determined : Fixes 1 wanted-kinds.ps wanted-kinds.r wanted_reads.Post (λ κs s t. Unit)

@@ -3,7 +3,7 @@
 
 ghost use Rattle.std.specs.Prelude.{◌≡◌, ◌+◌, ◌<◌, ◌≤◌, None, Some, Ok, IfOk, length, take, drop, if◌then◌else◌, nat_lt};
 ghost use Rattle.refusal.specs.definitions.Refusal.{answer_of};
-ghost use Rattle.capture.specs.definitions.Read.{record_in, read_in};
+ghost use Rattle.capture.specs.definitions.Read.{record_in, read_in, standing_in};
 ghost use Rattle.capture.specs.definitions.Capture.{layout, big_endian_at, refusal_at, order_at, frame_at, read_at, next_of, read_one};
 ghost use Rattle.capture.specs.definitions.Capture.{symbols_at, wanted};
 
@@ -164,9 +164,9 @@ pub fn wanted(piece: &[u8]) -> usize
     }
 }
 
-// The place after what was read: neither the end nor a refusal moves it.
-pub fn next_place(read: Result<Option<Record>, Refusal>, place: usize) -> usize
-    ensures { result ≡ next_of (read_in read) place }
+// The place after what was read: neither the end nor a refusal moves it, by whatever it is told.
+pub fn next_place<E: Copy>(read: Result<Option<Record>, E>, place: usize) -> usize
+    ensures { result ≡ next_of (standing_in read) place }
 {
     match read {
         Ok(Some(record)) => record.next(),

@@ -57,6 +57,7 @@ impl Locator {
     }
 
     // The places of the bits that have a remainder; any two where no two bits have it. No branch hangs on it.
+    #[tactic(auto, unfolding(crate::specs::private::Tables::located, crate::specs::private::Tables::place_by, crate::specs::private::Tables::values_of))]
     pub fn places(&self, remainder: u16) -> Pair
         ensures { (result.first, result.second) ≡ located self.now.arrays.now remainder }
     {

@@ -28,6 +28,7 @@ fn send_frame(lanes: &[u8; 5280], store: &mut [u8; 2880], frame: &mut [u8; 6144]
 }
 
 // A frame sent: 5,280 bytes of lanes in, 6,144 symbols out, and the store kept. A wrong length is refused by its number and changes nothing.
+#[tactic(auto, unfolding(crate::specs::definitions::Send::send_number))]
 pub fn send(input: &[u8], store: &mut [u8], output: &mut [u8]) -> Result<(), Refusal>
     ensures { Sends base input.now store.old output.old (answer_of result) store.new output.new }
 {
@@ -40,6 +41,7 @@ pub fn send(input: &[u8], store: &mut [u8], output: &mut [u8]) -> Result<(), Ref
 
 // A frame's lock, its words mended and their flags: the first half of receiving, for a caller that wants no lanes. A wrong length, or no lock, is refused by
 // its number and changes nothing.
+#[tactic(auto, unfolding(crate::specs::definitions::Receive::words_number))]
 pub fn receive_words(
     input: &[u8],
     words: &mut [u64; 768],
@@ -73,6 +75,7 @@ fn lanes_out(
 
 // A frame received: 6,144 symbols in, 5,280 bytes of lanes and 384 flag bytes out, and the store kept. A wrong length, or no lock, is refused by its
 // number and changes nothing.
+#[tactic(auto, unfolding(crate::specs::definitions::Receive::receive_number))]
 pub fn receive(
     input: &[u8],
     store: &mut [u8],

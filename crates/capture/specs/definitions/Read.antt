@@ -22,3 +22,9 @@ abbrev pub read_in : Result (Option Record) Refusal → Read
 read_in (Ok None) = End
 read_in (Ok (Some x)) = record_in x
 read_in (Err refusal) = Refused (number_of refusal)
+
+-- what stands there, whatever tells of a refusal
+abbrev pub standing_in : {E : Type 0} → Result (Option Record) E → Read
+standing_in (Ok None) = End
+standing_in (Ok (Some x)) = record_in x
+standing_in (Err told) = Refused 0

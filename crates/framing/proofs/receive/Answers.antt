@@ -8,21 +8,6 @@ use Rattle.framing.specs.definitions.Receive.{receive_number}
 use Rattle.framing.proofs.Receiving.{short_flags, refused, without_lock, received}
 use Rattle.framing.proofs.receive.Goals as goal
 
-pub returns-in_err-frame : goal.returns-in_err-frame
-unfolding receive_number
-returns-in_err-frame c = search rules
-
-pub returns-in_err-store : goal.returns-in_err-store
-unfolding receive_number
-returns-in_err-store c = search rules
-
-pub returns-in_err-lanes : goal.returns-in_err-lanes
-unfolding receive_number
-returns-in_err-lanes c =
-    let frame = rw c.in_ok-frame.ensures.ok_part at c.as_array.ensures.cases in
-    let store = rw c.in_ok-store.ensures.ok_part at c.as_mut_array.ensures.cases in
-    rw store.same (search rules)
-
 pub returns-in_err-flags : goal.returns-in_err-flags
 returns-in_err-flags c =
     let x = c.args in
