@@ -4,7 +4,6 @@ use mathlib.Core.Logic.{◌≢◌}
 use Rattle.refusal.specs.definitions.Refusal.{answer_of}
 use Rattle.refusal.proofs.Numbers.{positive}
 use Rattle.framing.specs.definitions.Places.{base}
-use Rattle.framing.specs.definitions.Receive.{receive_number}
 use Rattle.framing.proofs.Receiving.{short_flags, refused, without_lock, received}
 use Rattle.framing.proofs.receive.Goals as goal
 
