@@ -11,9 +11,7 @@ use lib.Dec.{eqb}
 use lib.ListN.{length, take, drop, length-drop, length-append}
 use lib.Seq.{drop-drop, take_all, take-append_seam, drop-append_seam}
 use borrow.Author.Tests.{eq-eqb, ne_eqb}
-use Rattle.capture.specs.declared.Record.{Record}
-use Rattle.capture.specs.declared.Record.TheVariants as found
-use Rattle.capture.specs.definitions.Read.{record_in, Read, End, Refused, Order, Frame}
+use Rattle.capture.specs.definitions.Read.{Read, End, Refused, Order, Frame}
 use Rattle.capture.specs.definitions.Capture.{read_at, next_of, read_one, shifted, symbols_at, wanted}
 use Rattle.capture.proofs.Found.{Stands, stands, order_found, frame_found}
 use Rattle.capture.proofs.Cases.{at_end}
@@ -191,30 +189,28 @@ module _ (s : List ℕ) (i : ℕ) (r : Run) (A : Ahead s i r) (h : i < length s)
   pub walk_stops : next ≤ i → new ≡ examined s
   walk_stops l = let T = one_on A.0 A.1 A.2 in sym (walked_stays new (stays_stopped l) T.0 s next) ∙ T.2
 
--- a record lies before the end, and ends behind its place
-pub record_inside : (s : List ℕ) (i : ℕ) (x : Record) → record_in x ≡ read_at s i → (i < length s) × (i < next_of (record_in x) 0)
-record_inside s i (found.Order start asked allowed next) e =
-    let O = order_found s i (sym e) in let w = O.whole.inside in let n = O.next_is in (omega arith, omega arith)
-record_inside s i (found.Frame number from next) e =
-    let F = frame_found s i (sym e) in let w = F.whole.inside in let n = F.next_is in (omega arith, omega arith)
-
-module _ (s : List ℕ) (i : ℕ) (r : Run) where
-  -- behind a record the walk goes on
-  pub walk_record : Ahead s i r → (x : Record) → record_in x ≡ read_at s i → (new : Run) → new ≡ came_as (record_in x) r s
-      → Ahead s (next_of (record_in x) 0) new
-  walk_record A (found.Order start asked allowed next) e new came =
-      let h = record_inside s i (found.Order start asked allowed next) e in walk_goes s i r A h.0 _ e new came next refl h.1
-  walk_record A (found.Frame number from next) e new came =
-      let h = record_inside s i (found.Frame number from next) e in walk_goes s i r A h.0 _ e new came next refl h.1
-
-  -- and else it is over: at the end, or at a refusal
-  pub walk_over : Ahead s i r → (read : Read) → read ≡ read_at s i → next_of read i ≡ i → (new : Run) → new ≡ came_as read r s → new ≡ examined s
-  unfolding came_as
-  walk_over A read e stays new came = go (dec_lt i (length s))
+-- what is read beyond the last byte, too: it is the end, and the place stays
+module _ (s : List ℕ) (i : ℕ) (read : Read) (is : read ≡ read_at s i) (next : ℕ) (at : next ≡ next_of read i) where
+  -- the place moves behind a record alone, which lies before the end
+  pub moves_inside : i < next → i < length s
+  moves_inside l = go (dec_lt i (length s))
     where
-      go : Dec (i < length s) → new ≡ examined s
-      go (yes h) = walk_stops s i r A h read e new came i (sym stays) (omega arith)
-      go (no h) = came ∙ ap (λ (x : Read). came_as x r s) (e ∙ sym (at_end s i (omega arith))) ∙ walk_ends s i r A (omega arith)
+      go : Dec (i < length s) → i < length s
+      go (yes h) = h
+      go (no h) = absurd (let stays : next ≡ i = at ∙ ap (λ (x : Read). next_of x i) (is ∙ sym (at_end s i (omega arith))) in omega arith)
+
+  module _ (r : Run) (A : Ahead s i r) (new : Run) (came : new ≡ came_as read r s) where
+    pub walk_on : i < next → Ahead s next new
+    walk_on l = walk_goes s i r A (moves_inside l) read is new came next at l
+
+    -- where it stays the walk is over: at the end, or at a refusal
+    pub walk_over : next ≤ i → new ≡ examined s
+    unfolding came_as
+    walk_over l = go (dec_lt i (length s))
+      where
+        go : Dec (i < length s) → new ≡ examined s
+        go (yes h) = walk_stops s i r A h read is new came next at l
+        go (no h) = came ∙ ap (λ (x : Read). came_as x r s) (is ∙ sym (at_end s i (omega arith))) ∙ walk_ends s i r A (omega arith)
 
 -- ---- reading record by record
 

@@ -153,9 +153,10 @@ pub fn examine_capture(capture: &[u8]) -> Run
     loop {
         let read = capture::read_at(capture, place);
         let _ = run.came(read, capture);
-        match read {
-            Ok(Some(found)) => place = found.next(),
-            Ok(None) | Err(_) => return run,
+        let next = capture::next_place(read, place);
+        if next <= place {
+            return run;
         }
+        place = next;
     }
 }

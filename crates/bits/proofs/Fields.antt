@@ -55,6 +55,12 @@ module _ (s : List ℕ) where
       → field_at s i (n + m) % 2 ^ m * 2 ^ k + field_at s (i + n + m) (k + l) / 2 ^ l ≡ field_at s (i + n) (m + k)
   field_cross i n m k l = rw (field_low i n m, field_top (i + n + m) k l) (sym (field_join (i + n) m k))
 
+-- the bytes that it touches are kept
+pub field_kept : (d l : List ℕ) (i n : ℕ) → ((m : ℕ) → i < 8 * m + 8 → 8 * m < i + n → get_or l m 0 ≡ get_or d m 0) → field_at l i n ≡ field_at d i n
+unfolding field_at bit_at
+field_kept d l i n h =
+    field_is l i n (λ q. bit_at d (i + q)) (λ q c. ap (λ (x : ℕ). bit_of 8 x ((i + q) % 8)) (h ((i + q) / 8) (omega arith) (omega arith)))
+
 module _ (s : List ℕ) (B : AllBytes s) where
   pub byte_field : (m : ℕ) → field_at s (8 * m) 8 ≡ get_or s m 0
   byte_field m = field_is s (8 * m) 8 (bit_of 8 (get_or s m 0)) (bit_at_byte s m) ∙ number_bits 8 (get_or s m 0) (B.byte m)

@@ -5,12 +5,18 @@ ghost use Rattle.std.specs.Prelude.{◌≡◌};
 ghost use Rattle.bits.specs.definitions.Bits.{loaded_at};
 ghost use Rattle.bits.specs.definitions.Put.{PutEight};
 
-// Powers of two by which numbers are cut, as the definitions write them: 2^31 and so on.
+// Powers of two by which numbers are cut, as the definitions write them: 2^24 and so on.
+pub const TWO_24: u64 = 1 << 24;
+
 pub const TWO_31: u64 = 1 << 31;
 
 pub const TWO_32: u64 = 1 << 32;
 
+pub const TWO_40: u64 = 1 << 40;
+
 pub const TWO_48: u64 = 1 << 48;
+
+pub const TWO_56: u64 = 1 << 56;
 
 pub const TWO_62: u64 = 1 << 62;
 

@@ -9,11 +9,9 @@ use native.Mathlib.Omega.{arith}
 use lib.Dec.{ltb}
 use lib.ListN.{length, take, length-take}
 use Rattle.std.proofs.lemmas.Bool.Decides.{nat_tests}
-use Rattle.capture.specs.declared.Record.{Record}
-use Rattle.capture.specs.declared.Record.TheVariants as found
-use Rattle.capture.specs.definitions.Read.{record_in, Read, End, Refused, Order, Frame}
+use Rattle.capture.specs.definitions.Read.{Read, End, Refused, Order, Frame}
 use Rattle.capture.specs.definitions.Capture.{read_at, next_of, more_than_one, more, read_one, wanted}
-use Rattle.capture.proofs.Found.{Stands, stands, order_found, frame_found}
+use Rattle.capture.proofs.Found.{Stands, stands}
 use Rattle.capture.proofs.Local.{wanted_reads}
 
 -- bytes with nothing more behind what stands at their beginning
@@ -21,11 +19,10 @@ pub one_alone : (s : List ℕ) → (next_of (read_at s 0) 0 ≡ 0) ⊎ (length s
 unfolding read_one
 one_alone s h = grind (arith, nat_tests)
 
--- a record never ends where it begins
-pub record_more : (s : List ℕ) (x : Record) → record_in x ≡ read_at s 0 → next_of (record_in x) 0 < length s → read_one s ≡ Refused more_than_one
+-- and bytes with more behind it
+pub one_more : (s : List ℕ) → 0 < next_of (read_at s 0) 0 → next_of (read_at s 0) 0 < length s → read_one s ≡ Refused more_than_one
 unfolding read_one
-record_more s (found.Order start asked allowed next) e h = let n = (order_found s 0 (sym e)).next_is in rw (← e) (grind (arith, nat_tests))
-record_more s (found.Frame number from next) e h = let n = (frame_found s 0 (sym e)).next_is in rw (← e) (grind (arith, nat_tests))
+one_more s h more = grind (arith, nat_tests)
 
 -- a record that ends in the bytes, and not before them, ends with them
 ends : {bytes : ℕ} (next : ℕ) → ltb 0 next && ltb next bytes ≡ false → (0 < next) × (next ≤ bytes) → bytes ≡ next

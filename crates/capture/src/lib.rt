@@ -179,10 +179,12 @@ pub fn next_place<E: Copy>(read: Result<Option<Record>, E>, place: usize) -> usi
 pub fn read_one(piece: &[u8]) -> Result<Option<Record>, Refusal>
     ensures { read_in result ≡ read_one piece.now }
 {
-    match read_at(piece, 0)? {
-        Some(found) if found.next() < piece.len() => Err(Refusal::MoreThanOne),
-        read => Ok(read),
+    let read = read_at(piece, 0);
+    let next = next_place(read, 0);
+    if 0 < next && next < piece.len() {
+        return Err(Refusal::MoreThanOne);
     }
+    read
 }
 
 // A reader walks over one lent capture and keeps its place.

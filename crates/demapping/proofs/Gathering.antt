@@ -85,6 +85,10 @@ turned_is l r x h =
     ∙ turned_dibit (l % 2) t x (omega arith) (tributary_lt l r) h
     ∙ ap (λ (n : ℕ). bit_of 8 x (2 * t + l % 2) * 2 + bit_of 8 x (2 * t + n)) n
 
+pub dibit_law : (l q x v : ℕ) → x < 256 → v ≡ turned l x → dibit_in ((q + 3 * (2 * l + l / 2 % 2)) % 4) v ≡ dibit_of l q x
+unfolding tributary_in
+dibit_law l q x v h e = ap (dibit_in ((q + 3 * (2 * l + l / 2 % 2)) % 4)) e ∙ turned_is l q x h
+
 -- ---- a word's byte of four symbols
 
 gathered_same : (l m r a b c d : ℕ) → l % 4 ≡ m % 4 → gathered l r a b c d ≡ gathered m r a b c d

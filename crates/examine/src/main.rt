@@ -15,6 +15,9 @@ use std::fmt::InlineText;
 use std::io;
 use std::io::{Read, Write};
 
+// The system's number of an interrupted call.
+const INTERRUPTED: i32 = 4;
+
 // Fills a buffer, or as much of it as is left of the input, and answers how much that is. Where the bytes that a reader has are known, as of one over memory,
 // it is those that stand there, and less than the whole buffer only at their end; where a read fails, some of them came before.
 #[tactic(auto, using(crate::proofs::Known::part_given))]
@@ -106,12 +109,39 @@ fn render(run: Run, out: &mut [u8; report::LONGEST]) -> &[u8]
     &out[..n]
 }
 
-// Writes it. Where what a writer holds is known, as of one into memory, the whole report now stands behind that, unless a write failed.
+// Writes all of some bytes, unless a write fails. One that is interrupted is tried again, and after one try for each byte and 64 more it has failed: the
+// library's own `write_all` would try 2^64 times.
+fn write_whole<W: Write>(writer: &mut W, bytes: &[u8]) -> io::Result<()>
+    ensures { OnOk result (Appends (W.contents writer.old) (W.contents writer.new) bytes.now) }
+{
+    let mut rest = bytes;
+    for _ in 0..bytes.len().saturating_add(64) {
+        if rest.is_empty() {
+            break;
+        }
+        match writer.write(rest) {
+            Ok(0) => {
+                let message = "failed to write whole buffer";
+                return Err(io::Error::new(io::ErrorKind::WriteZero, message));
+            }
+            Ok(n) => rest = &rest[n..],
+            Err(error) if error.kind() == io::ErrorKind::Interrupted => {}
+            Err(error) => return Err(error),
+        }
+    }
+    if rest.is_empty() {
+        Ok(())
+    } else {
+        Err(io::Error::from_raw_os_error(INTERRUPTED))
+    }
+}
+
+// Writes a report. Where what a writer holds is known, as of one into memory, the whole report now stands behind that, unless a write failed.
 fn print<W: Write>(writer: &mut W, run: Run) -> io::Result<()>
     ensures { OnOk result (Appends (W.contents writer.old) (W.contents writer.new) (text run)) }
 {
     let mut out = [0u8; report::LONGEST];
-    writer.write_all(render(run, &mut out))
+    write_whole(writer, render(run, &mut out))
 }
 
 // Tells on standard error what failed and why, in the system's words: without the number that an `io::Error` prints behind them.

@@ -318,13 +318,13 @@ permuted_twice ex x p i h = go (ex (i / 10 % 4))
     go true = ap (λ (q : ℕ). x q i) back
     go false = refl
 
--- the permutation depends on a frame's bits alone
-pub permuted_cong : (ex : Places) (x y : Lanes) → ((p i : ℕ) → p < 32 → i < 1320 → x p i ≡ y p i)
-    → lane_bytes (permuted ex x) ≡ lane_bytes (permuted ex y)
+-- the permutation depends on a frame's bits alone, and on the four places that a number names
+pub permuted_cong : (ex ex' : Places) (x y : Lanes) → ((s : ℕ) → s < 4 → ex s ≡ ex' s) → ((p i : ℕ) → p < 32 → i < 1320 → x p i ≡ y p i)
+    → lane_bytes (permuted ex x) ≡ lane_bytes (permuted ex' y)
 unfolding lane_bytes permuted
-permuted_cong ex x y same =
+permuted_cong ex ex' x y places same =
     bytes_cong 5280 _ _
-    (λ j h. λ z. cond (ex (j % 1320 / 10 % 4)) (same (partner (j / 1320)) (j % 1320) (omega arith) (omega arith) z)
+    (λ j h. λ z. cond (places (j % 1320 / 10 % 4) (omega arith) z) (same (partner (j / 1320)) (j % 1320) (omega arith) (omega arith) z)
     (same (j / 1320) (j % 1320) (omega arith) (omega arith) z))
 
 -- ---- the loops that store blocks

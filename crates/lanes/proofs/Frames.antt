@@ -43,7 +43,7 @@ module _ (e : ℕ) (a s : List ℕ) {out next : List ℕ} (S : AllBytes s) where
       → (out ≡ deinterleaved_frame (named e) a s) × (next ≡ deinterleaved_store a s)
   unfolding deinterleaved_frame deinterleaved_store
   deinterleave_law {y} long A ey en eo = (
-    eo ∙ permuted_cong (named e) (lanes_of y) back same,
+    eo ∙ permuted_cong (named e) (named e) (lanes_of y) back (λ s h. refl) same,
     en ∙ kept_is receiver receiver_apart a s long A S (lanes_of a) (λ p i hp hi. refl),
   )
     where

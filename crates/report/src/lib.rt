@@ -21,12 +21,12 @@ fn put(report: &mut ArrayVec<u8, LONGEST>, text: &[u8])
 }
 
 // A line of figures, behind what was written: its name, a number, the line's end. It has at most 21 bytes besides the name.
-fn put_line(report: &mut ArrayVec<u8, LONGEST>, name: &str, n: u64)
-    requires { length report.old.items + length name.now + 21 ≤ longest }
+fn put_line<const N: usize>(report: &mut ArrayVec<u8, LONGEST>, name: &[u8; N], n: u64)
+    requires { length report.old.items + N + 21 ≤ longest }
     ensures items { report.new.items ≡ report.old.items ++ line name.now n }
-    ensures upper_bound { length report.new.items ≤ length report.old.items + length name.now + 21 }
+    ensures upper_bound { length report.new.items ≤ length report.old.items + N + 21 }
 {
-    put(report, name.as_bytes());
+    put(report, name);
     put(report, itoa::Buffer::new().format(n).as_bytes());
     report.push(b'\n');
 }
@@ -50,13 +50,13 @@ fn text(run: bench::Run) -> ArrayVec<u8, LONGEST>
     let account = run.account;
     let words = account.words;
     let mut report = ArrayVec::new();
-    put_line(&mut report, "asked ", u64::from(run.asked));
-    put_line(&mut report, "accepted ", account.accepted);
-    put_line(&mut report, "missing ", account.missing);
-    put_line(&mut report, "clean ", words.clean);
-    put_line(&mut report, "one ", words.one);
-    put_line(&mut report, "two ", words.two);
-    put_line(&mut report, "flagged ", words.flagged);
+    put_line(&mut report, b"asked ", u64::from(run.asked));
+    put_line(&mut report, b"accepted ", account.accepted);
+    put_line(&mut report, b"missing ", account.missing);
+    put_line(&mut report, b"clean ", words.clean);
+    put_line(&mut report, b"one ", words.one);
+    put_line(&mut report, b"two ", words.two);
+    put_line(&mut report, b"flagged ", words.flagged);
     put(&mut report, b"verdict ");
     put(&mut report, verdict_name(run.verdict()).as_bytes());
     report.push(b'\n');

@@ -5,7 +5,7 @@ use mathlib.Core.Logic.{◌≢◌}
 use mathlib.Core.Bool.{cond}
 use mathlib.Core.List.{List}
 use Prim.Native.Nat.{ℕ, ◌+◌, ◌-◌, ◌*◌, ◌/◌, ◌%◌, ◌^◌, ◌<◌}
-use native.Mathlib.Nat.{mul_assoc, mod-eq_of_lt, div-div-eq-div-mul}
+use native.Mathlib.Nat.{mod-eq_of_lt, div-div-eq-div-mul}
 use native.Mathlib.Decide.{dec_lt, ℕ_discrete}
 use native.Mathlib.Omega.{arith}
 use lib.Arith.{digits_div, digits_mod}
@@ -20,13 +20,6 @@ use Rattle.bits.proofs.Joins.{put_byte}
 use Rattle.bits.proofs.Tabulate.{is_tabulate}
 use Rattle.bits.proofs.Words.{row_at_lem}
 use Rattle.shuffle.specs.private.Rotation.{rotated, HoldsNumbers, HoldsBytes, WordPut, LaneRotated, LanesRotated, rotated_row}
-
--- an amount of tens
-pub places_tens : (m p : ℕ) → m % 10 ≡ 0 → m * p % 110 % 10 ≡ 0
-places_tens m p e =
-    let tens : m ≡ 10 * (m / 10) = omega arith in
-    let product : m * p ≡ 10 * (m / 10 * p) = ap (λ (k : ℕ). k * p) tens ∙ mul_assoc 10 (m / 10) p in
-    omega arith
 
 -- ---- lane by lane, whatever the row is
 

@@ -91,10 +91,10 @@ impl Row for [u8; 6144] {
     }
 }
 
-// The twelve words of lane p rotated by N places: compiled for each amount by itself, since a shift by a literal takes half the time.
-fn rotate_lane<const N: u64, R: Row>(words: &[u64; 768], p: usize, out: &mut R)
-    requires { (p < 32) × (N < 110) }
-    ensures { LaneRotated R.holds N p words.now out.old 12 out.new }
+// The twelve words of lane p rotated by n places.
+fn rotate_lane<R: Row>(words: &[u64; 768], p: usize, n: u64, out: &mut R)
+    requires { (p < 32) × (n < 110) }
+    ensures { LaneRotated R.holds n p words.now out.old 12 out.new }
 {
     for k in 0..12 {
         let i = 32 * k + p;
@@ -102,34 +102,42 @@ fn rotate_lane<const N: u64, R: Row>(words: &[u64; 768], p: usize, out: &mut R)
             hi: words[2 * i],
             lo: words[2 * i + 1],
         };
-        out.put_word(i, rotate(word, N));
+        out.put_word(i, rotate(word, n));
     }
 }
 
-// By one of the amounts that the shuffle has.
+// By N places: compiled for each amount by itself, since a shift by a literal takes half the time.
+fn rotate_lane_at<const N: u64, R: Row>(words: &[u64; 768], p: usize, out: &mut R)
+    requires { (p < 32) × (N < 110) }
+    ensures { LaneRotated R.holds N p words.now out.old 12 out.new }
+{
+    rotate_lane(words, p, N, out);
+}
+
+// By any amount; by one of those that the shuffle has, as compiled for it.
 fn rotate_lane_by<R: Row>(words: &[u64; 768], p: usize, n: usize, out: &mut R)
-    requires { (p < 32) × (n < 110) × (n % 10 ≡ 0) }
+    requires { (p < 32) × (n < 110) }
     ensures { LaneRotated R.holds n p words.now out.old 12 out.new }
 {
     match n {
-        0 => rotate_lane::<0, R>(words, p, out),
-        10 => rotate_lane::<10, R>(words, p, out),
-        20 => rotate_lane::<20, R>(words, p, out),
-        30 => rotate_lane::<30, R>(words, p, out),
-        40 => rotate_lane::<40, R>(words, p, out),
-        50 => rotate_lane::<50, R>(words, p, out),
-        60 => rotate_lane::<60, R>(words, p, out),
-        70 => rotate_lane::<70, R>(words, p, out),
-        80 => rotate_lane::<80, R>(words, p, out),
-        90 => rotate_lane::<90, R>(words, p, out),
-        100 => rotate_lane::<100, R>(words, p, out),
-        _ => unreachable!(),
+        0 => rotate_lane_at::<0, R>(words, p, out),
+        10 => rotate_lane_at::<10, R>(words, p, out),
+        20 => rotate_lane_at::<20, R>(words, p, out),
+        30 => rotate_lane_at::<30, R>(words, p, out),
+        40 => rotate_lane_at::<40, R>(words, p, out),
+        50 => rotate_lane_at::<50, R>(words, p, out),
+        60 => rotate_lane_at::<60, R>(words, p, out),
+        70 => rotate_lane_at::<70, R>(words, p, out),
+        80 => rotate_lane_at::<80, R>(words, p, out),
+        90 => rotate_lane_at::<90, R>(words, p, out),
+        100 => rotate_lane_at::<100, R>(words, p, out),
+        _ => rotate_lane(words, p, n as u64, out),
     }
 }
 
 // Each word of a row rotated, a word of lane p by so many places times p.
 fn rotate_words<R: Row>(words: &[u64; 768], places: usize, out: &mut R)
-    requires { (places < 110) × (places % 10 ≡ 0) }
+    requires { places < 110 }
     ensures { LanesRotated R.holds places words.now 32 out.new }
 {
     for p in 0..32 {

@@ -5,8 +5,8 @@ use lib.ListN.{length}
 use Rattle.bench.proofs.Walk.{Ahead}
 use Rattle.bench.proofs.examine_capture.Given as goal
 
-abbrev pub invariant-loop-found : goal.invariant-loop-found
-invariant-loop-found l = Ahead l.capture l.place l.run
+abbrev pub invariant-loop-place : goal.invariant-loop-place
+invariant-loop-place l = Ahead l.capture l.place l.run
 
-abbrev pub decreases-loop-found : goal.decreases-loop-found
-decreases-loop-found l = length l.capture - l.place
+abbrev pub decreases-loop-place : goal.decreases-loop-place
+decreases-loop-place l = length l.capture - l.place

@@ -8,9 +8,8 @@ use Rattle.report.proofs.Writing.{line_behind}
 use Rattle.report.proofs.put_line.Goals as goal
 
 pub returns-clause-items : goal.returns-clause-items
-returns-clause-items c =
+returns-clause-items g c =
     let number = c.format.ensures.text ∙ decimal_printed c.args.n (omega arith) in
-    let named = c.put.ensures ∙ ap (λ (l : List ℕ). c.args.report.now.items ++ l) c.as_bytes.ensures.value in
     c.push.ensures.items
-    ∙ ap (λ (l : List ℕ). l ++ (10 ∷ [])) (c.put-2.ensures ∙ ap₂ ◌++◌ named (c.as_bytes-2.ensures.value ∙ number))
+    ∙ ap (λ (l : List ℕ). l ++ (10 ∷ [])) (c.put-2.ensures ∙ ap₂ ◌++◌ c.put.ensures (c.as_bytes.ensures.value ∙ number))
     ∙ line_behind c.args.report.now.items c.args.name.now c.args.n
